@@ -1,10 +1,3 @@
-pub mod Bytes
-pub mod Lengths
-pub mod Blocks
-pub mod Rules
-pub mod Decode
-pub mod Writes
-pub mod Accepts
+pub mod Listed
 pub mod Limited
-pub mod Unique
-pub mod Laws
+pub mod Same

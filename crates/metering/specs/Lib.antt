@@ -1,6 +1,6 @@
 pub mod Limits
+pub mod Blocks
 pub mod Verdict
-pub mod Check
-pub mod File
 pub mod Figures
-pub mod Calls
+pub mod Makes
+pub mod Text

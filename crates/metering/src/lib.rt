@@ -1,14 +1,24 @@
-// Meter files: a month's reading of one meter, and the one file that it has.
+// Readings: what a meter measured in a month, its limits, and why figures are turned down.
+pub mod figures;
+pub mod half_hour;
+pub mod header;
 pub mod reading;
 pub mod refusal;
 
+pub use figures::Figures;
+pub use figures::make_reading;
+pub use half_hour::HalfHour;
+pub use half_hour::HalfHourDisplay;
+pub use header::Header;
+pub use header::header_of;
 pub use reading::BLOCKS;
+pub use reading::DEMAND_LIMIT;
+pub use reading::ENERGY_LIMIT;
 pub use reading::Kind;
+pub use reading::LICENSEES;
+pub use reading::PLACES;
 pub use reading::Reading;
-pub use reading::figures::Figures;
-pub use reading::figures::make_reading;
-pub use reading::file::FILE_LIMIT;
-pub use reading::file::check_file;
-pub use reading::file::read_file;
-pub use reading::file::write_file;
+pub use reading::summary::KindDisplay;
+pub use reading::summary::ReadingDisplay;
 pub use refusal::Refusal;
+pub use refusal::RefusalDisplay;
