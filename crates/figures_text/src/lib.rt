@@ -1,11 +1,13 @@
 // The text in which people write the figures of a reading.
-
-pub mod draft;
+mod draft;
 pub mod fault;
 pub mod parse;
-pub mod words;
+mod words;
 
 pub use fault::Expected;
+pub use fault::ExpectedDebug;
+pub use fault::ExpectedDisplay;
+pub use fault::ExpectedPartialEq;
 pub use fault::TextFault;
 pub use fault::TextFaultDisplay;
 pub use parse::parse_figures;
