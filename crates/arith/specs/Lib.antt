@@ -1,0 +1,4 @@
+pub mod Division
+pub mod Scaling
+pub mod Months
+pub mod Interest
