@@ -5,13 +5,12 @@ use mathlib.Core.List.{List, reverse}
 use Prim.Native.Nat.{ℕ, _+_, _-_, _<_, _≤_}
 use native.Mathlib.Omega.{arith}
 use lib.ListN.{length, getD, set}
-use Rattle.std.specs.declared.option.Option.{Option}
 use Rattle.std.specs.declared.option.Option.the-variants.{Some, None}
 use Rattle.std.proofs.shelf.Lists.{length-reverse, length-set, getD-reverse, getD-set-same, getD-set-other, ext-getD}
 use Rattle.std.proofs.shelf.Tests.{cases-eq, cases-lt}
 use Rattle.metering.specs.declared.reading.Reading.{Reading}
 use Rattle.agreements.specs.Meaning.{Meaning, moved}
-use Rattle.banks.specs.Rows.{nowhere, at-place, put-at, moved-at, Books, LawfulAt}
+use Rattle.banks.specs.Rows.{nowhere, at-place, put-at, Books, LawfulAt}
 use Rattle.banks.proofs.Places.{at-in, at-past, at-zero, books}
 
 set-reverse : (ms : List Meaning) (i : ℕ) (m : Meaning) → i < length ms → reverse (set ms i m) ≡ set (reverse ms) (length ms - 1 - i) m

@@ -6,7 +6,6 @@ use lib.Dec.{eqb}
 use lib.ListN.{getD}
 use Rattle.metering.specs.declared.reading.Reading.{Reading}
 use Rattle.agreements.specs.declared.fault.Cause.the-variants.{Contract}
-use Rattle.agreements.specs.declared.dues.Dues.{Dues}
 use Rattle.agreements.specs.Dues.{no-dues}
 use Rattle.agreements.specs.Meaning.{Answer, admitted, refused, Meaning}
 use Rattle.strangers.specs.declared.retainer.Retainer.{Retainer}

@@ -1,17 +1,15 @@
 -- The worked case.
-use mathlib.Core.Path.{_≡_, refl, ap, sym, _∙_}
-use mathlib.Core.Bool.{true, false}
+use mathlib.Core.Path.{_≡_, refl, ap, _∙_}
 use mathlib.Core.List.{[], _∷_}
 use Prim.Native.Nat.{ℕ, _-_}
 use native.Mathlib.Omega.{arith}
-use Rattle.std.specs.Results.{Cases}
 use Rattle.std.specs.shelf.Lists.{sum}
 use Rattle.std.specs.declared.result.Result.{Result}
 use Rattle.std.specs.declared.result.Result.the-variants.{Ok, Err}
 use Rattle.metering.specs.Makes.{Makes, figures-check}
 use Rattle.metering.specs.Figures.{moderate}
 use Rattle.metering.specs.Limits.{block-count}
-use Rattle.metering.specs.Verdict.{accepted, verdict}
+use Rattle.metering.specs.Verdict.{accepted}
 use Rattle.metering.specs.declared.reading.Reading.{Reading}
 use Rattle.metering.specs.declared.figures.Figures.{Figures}
 use Rattle.metering.specs.declared.refusal.Refusal.{Refusal}

@@ -1,4 +1,4 @@
-use mathlib.Core.Path.{_≡_, ap, _∙_}
+use mathlib.Core.Path.{ap, _∙_}
 use Rattle.agreements.specs.Meaning.{answer, written}
 use Rattle.worked_agreements.proofs.Cases.{worked}
 use Rattle.worked_agreements.proofs.worked_quota.Needs as need

@@ -1,5 +1,5 @@
 use mathlib.Core.Path.{_≡_}
-use Prim.Native.Nat.{min, _≤_}
+use Prim.Native.Nat.{min}
 use lib.ListN.{take, drop}
 use Rattle.std.specs.Reads.{value}
 use Rattle.figures_text.specs.Words.{all-digits}

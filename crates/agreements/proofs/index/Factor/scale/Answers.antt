@@ -1,4 +1,3 @@
-use mathlib.Core.Path.{_≡_}
 use borrow.Author.Needs.{needs}
 use Rattle.agreements.specs.Indexes.{scaled}
 use Rattle.agreements.proofs.Indexing.{scaled-at-most}
