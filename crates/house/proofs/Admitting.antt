@@ -14,7 +14,7 @@ use Rattle.orders.specs.Tills.{room}
 use Rattle.ledger.specs.declared.refusal.Refusal.{Refusal}
 use Rattle.ledger.specs.declared.refusal.Refusal.TheVariants.{WrongKind, NoMonth, NoPlace, Again, TooMuch}
 use Rattle.ledger.specs.Views.{View, month_of, till_of, in_month}
-use Rattle.ledger.specs.Verdicts.{Verdict, accepted, must, bank_says, ◌and-then◌}
+use Rattle.ledger.specs.Verdicts.{Verdict, accepted, must, bank_says, ◌and_then◌}
 use Rattle.ledger.specs.Terms.{worth, dues_at}
 use Rattle.ledger.specs.Calls.{meter_verdict, of_generator}
 use Rattle.ledger.proofs.Months.{passed, must_accept, refused_not}

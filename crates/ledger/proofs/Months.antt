@@ -38,7 +38,7 @@ use Rattle.orders.specs.Limits.{cent}
 use Rattle.ledger.specs.declared.refusal.Refusal.{Refusal}
 use Rattle.ledger.specs.declared.refusal.Refusal.TheVariants.{WrongKind, NoMonth, Again}
 use Rattle.ledger.specs.Views.{View, rules, month_of, books_of, in_month}
-use Rattle.ledger.specs.Verdicts.{Verdict, accepted, refused, must, ◌and-then◌}
+use Rattle.ledger.specs.Verdicts.{Verdict, accepted, refused, must, ◌and_then◌}
 use Rattle.ledger.specs.Terms.{worth, dues_at, place_after}
 use Rattle.ledger.specs.Calls.{NewHouse, Year, YearFiled, Tariff, TariffPublished, Meter, Metered, Deliver, DeliveryTaken, deliver_verdict, of_generator, Close, MonthClosed, case_at, Draw, Release, Hold}
 use Rattle.ledger.specs.Runs.{Event, filed, priced, metered, delivered, closed, drew, released, held, Run, new, year, tariff, meter, deliver, close, draw, release, hold}

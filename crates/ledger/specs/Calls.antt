@@ -29,7 +29,7 @@ use Rattle.ledger.specs.declared.refusal.Refusal.{Refusal}
 use Rattle.ledger.specs.declared.refusal.Refusal.TheVariants.{WrongKind, NoMonth, NoPlace, Again, TooMuch, NotNow, Misallowed, UnderACent}
 use Rattle.ledger.specs.Refusals.{of_tariff, of_close}
 use Rattle.ledger.specs.Views.{View, rules, till_of, month_of, books_of, with_year, with_tariff, with_month, with_closed, with_till, with_reading, first_month, after_month, before_year, before_tariff, in_month}
-use Rattle.ledger.specs.Verdicts.{Verdict, accepted, refused, must, bank_says, ◌and-then◌}
+use Rattle.ledger.specs.Verdicts.{Verdict, accepted, refused, must, bank_says, ◌and_then◌}
 use Rattle.ledger.specs.Terms.{worth, dues_at}
 
 -- a house newly made: before a year, with amounts 0, no reading and no order

@@ -8,11 +8,11 @@ pub data Verdict : Type 0 where
   accepted : Verdict
   refused : Refusal → Verdict
 
-infixr 1 ◌and-then◌
+infixr 1 ◌and_then◌
 -- what the first rule says, and where it accepts what the next one says
-abbrev pub ◌and-then◌ : Verdict → Verdict → Verdict
-◌and-then◌ accepted rest = rest
-◌and-then◌ (refused why) rest = refused why
+abbrev pub ◌and_then◌ : Verdict → Verdict → Verdict
+◌and_then◌ accepted rest = rest
+◌and_then◌ (refused why) rest = refused why
 
 -- refused where the test fails
 abbrev pub must : Bool → Refusal → Verdict

@@ -8,7 +8,7 @@ returns-in-Ok c =
     record {
       value =
           c.ask.ensures.wrote
-          ∙ ap (λ m. written (answer m c.worked-reading.result) c.empty-dues.result) c.in-Ok.ensures.1
-          ∙ ap (λ a. written a c.empty-dues.result) (worked c.worked-reading.result c.worked-reading.ensures);
+          ∙ ap (λ m. written (answer m c.worked_reading.result) c.empty-dues.result) c.in-Ok.ensures.1
+          ∙ ap (λ a. written a c.empty-dues.result) (worked c.worked_reading.result c.worked_reading.ensures);
       law = worked;
     }

@@ -2,4 +2,4 @@ use Rattle.worked_agreements.proofs.Cases.{stored}
 use Rattle.worked_agreements.proofs.worked_reading.Goals as goal
 
 pub returns : goal.returns
-returns c = stored _ _ _ c.make-reading.ensures
+returns c = stored _ _ _ c.make_reading.ensures

@@ -22,10 +22,10 @@ returns c =
     let d = c.args.d in
     let wide : to_z w128 (of_z w128 (to_z w64 (of_z w64 n))) ≡ n = omega (arith, ints) in
     let divisor : to_z w128 d ≡ pos d = omega (arith, ints) in
-    let is : c.div-euclid.result ≡ floor n d = (simp (wide, divisor) at c.div-euclid.ensures) ∙ euclid_floor n d in
+    let is : c.div_euclid.result ≡ floor n d = (simp (wide, divisor) at c.div_euclid.ensures) ∙ euclid_floor n d in
     let small = floor_mag n d in
     let magnitude = ap mag is in
-    let narrow : to_z w64 (of_z w64 (to_z w128 (of_z w128 c.div-euclid.result))) ≡ floor n d = omega (arith, ints, is) in
+    let narrow : to_z w64 (of_z w64 (to_z w128 (of_z w128 c.div_euclid.result))) ≡ floor n d = omega (arith, ints, is) in
     let holds = floor_holds n d (omega arith) in
     let value = sym (answer_only n (floor n d) d holds) in
     rw narrow (record { value = value; cases = holds; only = λ q f. value ∙ answer_only n q d f; laws = (around_zero, (refl, refl, refl, refl)) })

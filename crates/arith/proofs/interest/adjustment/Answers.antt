@@ -10,15 +10,15 @@ pub returns : goal.returns
 returns c =
     let total = c.args.total in
     let quantity = c.args.quantity in
-    let ppm = c.args.interest-ppm in
-    let q = c.in-ok-per-unit.per-unit in
-    let wide = c.scale-ppm-signed.result in
+    let ppm = c.args.interest_ppm in
+    let q = c.in_ok-per_unit.per_unit in
+    let wide = c.scale_ppm_signed.result in
     let fits : SFits w64 q = search rules in
     let wide_fits : SFits w128 wide = search rules in
     let same_total : to_z w64 (of_z w64 total) ≡ total = omega (arith, ints) in
     let same = to_z-of_z w64 q fits in
     let same-wide = to_z-of_z w128 wide wide_fits in
-    let told = c.in-ok-per-unit.ensures.value in
+    let told = c.in_ok-per_unit.ensures.value in
     let floored : Ok q ≡ floor_of total quantity = cc in
     let scaled : wide ≡ more_by_signed ppm q = cc in
     record { value = cc (adjusted total quantity ppm q floored); worked = refl }

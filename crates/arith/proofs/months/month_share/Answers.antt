@@ -14,14 +14,14 @@ each c = ap (λ (p : ℕ × ℕ). p.0) (parts c)
 odd : (c : goal.After-unwrap-each) → c.unwrap-each.result.1 ≡ c.args.yearly % 12
 odd c = ap (λ (p : ℕ × ℕ). p.1) (parts c)
 
-pub odd-cents-requires : goal.odd-cents-requires
-odd-cents-requires c = omega (arith, odd c)
+pub odd_cents-requires : goal.odd_cents-requires
+odd_cents-requires c = omega (arith, odd c)
 
-pub overflow-add-result : goal.overflow-add-result
-overflow-add-result c = record { fits = omega (arith, each (goal.at.overflow-add-result c).After-unwrap-each) }
+pub overflow_add-result : goal.overflow_add-result
+overflow_add-result c = record { fits = omega (arith, each (goal.at.overflow_add-result c).After-unwrap-each) }
 
-pub overflow-sub-result : goal.overflow-sub-result
-overflow-sub-result c = omega (arith, more_odd c.unwrap-each.result.1 c.args.month)
+pub overflow_sub-result : goal.overflow_sub-result
+overflow_sub-result c = omega (arith, more_odd c.unwrap-each.result.1 c.args.month)
 
 pub returns : goal.returns
 returns c =
@@ -31,7 +31,7 @@ returns c =
     let whole : yearly ≡ p.0 * 12 + p.1 =
     omega (arith, each (goal.at.returns c).After-unwrap-each, odd (goal.at.returns c).After-unwrap-each) in
     let some : 1 ≤ month = omega arith in
-    let is : p.0 + c.odd-cents.result - c.odd-cents-2.result ≡ share yearly month =
+    let is : p.0 + c.odd_cents.result - c.odd_cents-2.result ≡ share yearly month =
     omega (arith, share_by_parts yearly p.0 p.1 month whole some) in
     record { value = is; whole = shares_add_up yearly; even = rw is (λ h k hk. shares_are_even yearly month k some hk) }
 

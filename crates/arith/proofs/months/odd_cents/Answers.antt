@@ -6,8 +6,8 @@ use Rattle.arith.proofs.months.odd_cents.Goals as goal
 few : (month odd : ℕ) → odd < 12 → month * odd ≤ month * 12
 few month odd h = mul-le month odd month 12 (le_refl month) (omega arith)
 
-pub overflow-mul-result : goal.overflow-mul-result
-overflow-mul-result c = record { fits = omega (arith, few c.args.month c.args.odd c.requires) }
+pub overflow_mul-result : goal.overflow_mul-result
+overflow_mul-result c = record { fits = omega (arith, few c.args.month c.args.odd c.requires) }
 
 pub returns : goal.returns
 returns c = record { value = refl; few = omega (arith, few c.args.month c.args.odd c.requires) }

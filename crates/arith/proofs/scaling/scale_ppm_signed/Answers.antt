@@ -20,17 +20,17 @@ fits : (c : goal.Start) → SFits w128 (c.args.x *ℤ pos (whole_ppm + c.args.pp
 fits c =
     product_fits w128 c.args.x (pos (whole_ppm + c.args.ppm)) 9223372036854775808 8589934592 (omega (arith, ints)) (omega arith) (lit< tt)
 
-pub overflow-mul-x : goal.overflow-mul-x
-overflow-mul-x c = rw (number c, factor c) (fits c)
+pub overflow_mul-x : goal.overflow_mul-x
+overflow_mul-x c = rw (number c, factor c) (fits c)
 
 pub returns : goal.returns
 returns c =
     let start = (goal.at.returns c).Start in
     let z = c.args.x *ℤ pos (whole_ppm + c.args.ppm) in
     let fit = fits start in
-    let is : c.div-euclid.result ≡ more_by_signed c.args.ppm c.args.x =
-    (simp (number start, factor start, to_z-of_z) at c.div-euclid.ensures) ∙ euclid_floor z whole_ppm in
-    let same : to_z w128 (of_z w128 c.div-euclid.result) ≡ more_by_signed c.args.ppm c.args.x = omega (arith, ints, is) in
+    let is : c.div_euclid.result ≡ more_by_signed c.args.ppm c.args.x =
+    (simp (number start, factor start, to_z-of_z) at c.div_euclid.ensures) ∙ euclid_floor z whole_ppm in
+    let same : to_z w128 (of_z w128 c.div_euclid.result) ≡ more_by_signed c.args.ppm c.args.x = omega (arith, ints, is) in
     rw same (record {
       value = refl;
       floored = floor_holds z whole_ppm (lit< tt);

@@ -9,5 +9,5 @@ pub loop-k-preserved : goal.loop-k-preserved
 loop-k-preserved g c =
     let x = case_of (rules_of g.M.Methodology.shape (g.M.Methodology.meaning c.args.m.now)) c.args.books.now c.args.rates.now c.args.revenues.now.yearly c.args.number c.args.month.now in (
       length-set _ _ _ ∙ c.loop-k.invariant.0,
-      filled_so (Found x) no_finding c.loop-k.all c.loop-k.k c.finding-of-found.result (omega (arith, c.loop-k.invariant.0, c.requires.few)) c.loop-k.invariant.1 c.finding-of-found.ensures,
+      filled_so (Found x) no_finding c.loop-k.all c.loop-k.k c.finding_of-found.result (omega (arith, c.loop-k.invariant.0, c.requires.few)) c.loop-k.invariant.1 c.finding_of-found.ensures,
     )

@@ -13,4 +13,4 @@ pub returns-then-k-count : goal.returns-then-k-count
 returns-then-k-count c =
     let j = c.args.k - 1 in
     let most = share_le (get_or c.args.revenues.now.yearly j 0) c.args.number (c.args.revenues.now.modest j (omega arith)) in
-    record { value = search rules; most = omega (arith, c.month-share.ensures.value) }
+    record { value = search rules; most = omega (arith, c.month_share.ensures.value) }

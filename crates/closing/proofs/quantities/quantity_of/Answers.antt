@@ -10,5 +10,5 @@ loop-l-init c = (sym (sum_none (λ i. taken (licensee_at c.args.month.now i) c.a
 pub loop-l-preserved : goal.loop-l-preserved
 loop-l-preserved c =
     let f : ℕ → ℕ = λ i. taken (licensee_at c.args.month.now i) c.args.k in
-    let e : c.taken-by-sum.result ≡ f c.loop-l.l = search (rules, get_or_read) in
-    (omega (arith, e, sum_next f c.loop-l.l, c.loop-l.invariant.0), omega (arith, c.loop-l.invariant.1, c.taken-by-sum.ensures.most))
+    let e : c.taken_by-sum.result ≡ f c.loop-l.l = search (rules, get_or_read) in
+    (omega (arith, e, sum_next f c.loop-l.l, c.loop-l.invariant.0), omega (arith, c.loop-l.invariant.1, c.taken_by-sum.ensures.most))

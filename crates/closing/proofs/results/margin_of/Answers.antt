@@ -18,8 +18,8 @@ modest c = c.requires.modest c.loop-k.k (omega arith)
 pub loop-k-init : goal.loop-k-init
 loop-k-init c = (sym (sumℤ_none (λ k. (finding_at c.args.findings.now k).margin)), omega arith)
 
-pub overflow-add-sum : goal.overflow-add-sum
-overflow-add-sum c =
+pub overflow_add-sum : goal.overflow_add-sum
+overflow_add-sum c =
     let k = c.loop-k.k in
     let f : ℕ → ℕ = λ i. get_or c.args.month.now.income i 0 in
     let e = margin_is c in

@@ -37,11 +37,11 @@ loop-byte-preserved c =
       sym (digits_go w at inside c.if-byte-lt48.false c.if-byte-gt57.false) ∙ c.loop-byte.invariant.1,
     )
 
-pub returns-else-is-empty : goal.returns-else-is-empty
-returns-else-is-empty c =
+pub returns-else-is_empty : goal.returns-else-is_empty
+returns-else-is_empty c =
     let w = c.args.word.now in
     let at = c.loop-byte.byte-index in
-    let some : length w ≡ 0 → ⊥ = eqb-false (length w) 0 (sym c.if-is-empty.ensures) in
+    let some : length w ≡ 0 → ⊥ = eqb-false (length w) 0 (sym c.if-is_empty.ensures) in
     let all : all_digits w ≡ true = sym c.loop-byte.invariant.1 ∙ digits_end w at (omega arith) in
     let whole : take at w ≡ w = take_all at w (omega arith) in
     ap Some (c.loop-byte.invariant.0 ∙ ap (λ l. min (digits_value 10 l) 4294967295) whole)

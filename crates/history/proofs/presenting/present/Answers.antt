@@ -4,16 +4,16 @@ use Rattle.history.specs.Slots.{slots_of, slot}
 use Rattle.history.proofs.Slots.{numbered, without_none, without_long, taken_slot, back_again, returned_order}
 use Rattle.history.proofs.presenting.present.Goals as goal
 
-pub returns-in-default : goal.returns-in-default
-returns-in-default g c =
-    let t = c.in-default.ensures in
+pub returns-in_default : goal.returns-in_default
+returns-in_default g c =
+    let t = c.in_default.ensures in
     record {
       done = inl record { nowhere = sym t.value; told = refl; same_slots = t.after ∙ without_none _ _ (sym t.value); same_house = refl };
       room = t.room;
     }
 
-pub put-back-requires : goal.put-back-requires
-put-back-requires g c =
+pub put_back-requires : goal.put_back-requires
+put_back-requires g c =
     let slots = slots_of c.args.orders.now in
     let t = c.in-Some.ensures in
     let there = numbered slots c.args.number c.in-Some.order (sym t.value) in
@@ -33,8 +33,8 @@ returns-in-Err g c =
     let slots = slots_of c.args.orders.now in
     let t = c.in-Some.ensures in
     let same : c.in-Err.back.order ≡ c.in-Some.order = returned_order c.args.how _ _ _ _ c.in-Err.ensures in
-    let back = back_again slots (slots_of c.take.new.self) (slots_of c.put-back.new.self) c.args.number c.in-Some.order c.in-Err.back.order (sym t.value) same t.after c.put-back.ensures.after in
+    let back = back_again slots (slots_of c.take.new.self) (slots_of c.put_back.new.self) c.args.number c.in-Some.order c.in-Err.back.order (sym t.value) same t.after c.put_back.ensures.after in
     record {
       done = inr (c.in-Some.order, Err c.in-Err.back, record { there = sym t.value; spent = c.in-Err.ensures; after = (refl, back) });
-      room = c.put-back.ensures.room ∙ t.room;
+      room = c.put_back.ensures.room ∙ t.room;
     }

@@ -11,7 +11,7 @@ returns c =
     let s = c.args.sheet.now in
     let fits : SFits w64 s.margin = search rules in
     let same : to_z w64 (of_z w64 s.margin) ≡ s.margin = to_z-of_z w64 s.margin fits in
-    let all : Adds (sheet_text s) c.empty-page.result c.put-margin.new.page
-    = then c.put-month.ensures.text (then c.put-heads.ensures.text (then c.put-licensees.ensures.text (rw same at c.put-margin.ensures))) in
-    let text : written c.put-margin.new.page ≡ sheet_text s = all.behind ∙ ap (λ l. l ++ sheet_text s) c.empty-page.ensures.text in
-    record { text = text; longest = on_the_page c.put-margin.new.page (sheet_text s) text }
+    let all : Adds (sheet_text s) c.empty-page.result c.put_margin.new.page
+    = then c.put_month.ensures.text (then c.put_heads.ensures.text (then c.put_licensees.ensures.text (rw same at c.put_margin.ensures))) in
+    let text : written c.put_margin.new.page ≡ sheet_text s = all.behind ∙ ap (λ l. l ++ sheet_text s) c.empty-page.ensures.text in
+    record { text = text; longest = on_the_page c.put_margin.new.page (sheet_text s) text }

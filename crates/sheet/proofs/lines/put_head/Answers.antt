@@ -11,10 +11,10 @@ returns c =
     let fits : SFits w64 z = search rules in
     let same : to_z w64 (of_z w64 z) ≡ z = to_z-of_z w64 z fits in
     record {
-      text = then c.put-name.ensures.text
-          (then c.put-figure.ensures.text
-          (then c.put-figure-2.ensures.text
-          (then (rw same at c.put-signed-figure.ensures.text)
-          (then c.put-figure-3.ensures.text c.end-line.ensures.text))));
+      text = then c.put_name.ensures.text
+          (then c.put_figure.ensures.text
+          (then c.put_figure-2.ensures.text
+          (then (rw same at c.put_signed_figure.ensures.text)
+          (then c.put_figure-3.ensures.text c.end_line.ensures.text))));
       len = omega arith;
     }

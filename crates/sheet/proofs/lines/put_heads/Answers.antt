@@ -9,4 +9,4 @@ loop-k-init c = (lines_none (head_text c.args.sheet.now), omega arith)
 
 pub loop-k-preserved : goal.loop-k-preserved
 loop-k-preserved c =
-    (lines_more (head_text c.args.sheet.now) c.loop-k.k c.loop-k.invariant.0 (search (rules, get_or_read)), omega (arith, c.loop-k.invariant.1, c.put-head.ensures.len))
+    (lines_more (head_text c.args.sheet.now) c.loop-k.k c.loop-k.invariant.0 (search (rules, get_or_read)), omega (arith, c.loop-k.invariant.1, c.put_head.ensures.len))

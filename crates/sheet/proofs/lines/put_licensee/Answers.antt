@@ -9,12 +9,12 @@ returns-in-Some c =
     record {
       text = rw c.in-Some.is
           (then c.put.ensures.text
-          (then c.put-figure.ensures.text
-          (then c.put-figure-in-Some.ensures.text
-          (then c.put-figure-in-Some-2.ensures.text c.end-line.ensures.text))));
+          (then c.put_figure.ensures.text
+          (then c.put_figure-in-Some.ensures.text
+          (then c.put_figure-in-Some-2.ensures.text c.end_line.ensures.text))));
       len = omega arith;
     }
 
-pub returns-in-default : goal.returns-in-default
+pub returns-in_default : goal.returns-in_default
 unfolding licensee_line
-returns-in-default c = record { text = rw c.in-default.is nothing; len = omega arith }
+returns-in_default c = record { text = rw c.in_default.is nothing; len = omega arith }

@@ -8,4 +8,4 @@ loop-k-init c = (lines_none (licensee_text c.args.sheet.now), omega arith)
 
 pub loop-k-preserved : goal.loop-k-preserved
 loop-k-preserved c =
-    (lines_more (licensee_text c.args.sheet.now) c.loop-k.k c.loop-k.invariant.0 (search rules), omega (arith, c.loop-k.invariant.1, c.put-licensee.ensures.len))
+    (lines_more (licensee_text c.args.sheet.now) c.loop-k.k c.loop-k.invariant.0 (search rules), omega (arith, c.loop-k.invariant.1, c.put_licensee.ensures.len))

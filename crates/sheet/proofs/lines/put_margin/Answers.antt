@@ -10,4 +10,4 @@ returns c =
     let z = c.args.margin in
     let fits : SFits w64 z = c.ranges.margin in
     let same : to_z w64 (of_z w64 z) ≡ z = to_z-of_z w64 z fits in
-    then c.put.ensures.text (then (rw same at c.put-signed-figure.ensures.text) c.end-line.ensures.text)
+    then c.put.ensures.text (then (rw same at c.put_signed_figure.ensures.text) c.end_line.ensures.text)

@@ -5,4 +5,4 @@ use Rattle.sheet.proofs.lines.put_month.Goals as goal
 
 pub returns : goal.returns
 unfolding month_line
-returns c = record { text = then c.put.ensures.text (then c.put-figure.ensures.text c.end-line.ensures.text); len = omega arith }
+returns c = record { text = then c.put.ensures.text (then c.put_figure.ensures.text c.end_line.ensures.text); len = omega arith }

@@ -5,8 +5,8 @@ use Rattle.tariffs.proofs.Ranges.{row_at}
 use Rattle.tariffs.proofs.Tables.{filled_bounded}
 use Rattle.tariffs.proofs.year.file_year.Goals as goal
 
-pub invariant-of-result : goal.invariant-of-result
-invariant-of-result c =
+pub invariant_of-result : goal.invariant_of-result
+invariant_of-result c =
     let row = c.args.filed.now in
     let fits = sym c.fits.ensures ∙ c.if-not-fits.false in
     let bound = filled_bounded (λ j. get_or row.figures j 0) revenue_limit c.loop-j.j yearly_limit c.loop-j.yearly c.loop-j.invariant (λ j h. (row_at 0 yearly_limit c.args.shape.revenues row fits j (omega arith)).1) in

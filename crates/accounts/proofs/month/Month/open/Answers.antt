@@ -10,8 +10,8 @@ use Rattle.accounts.proofs.month.Month.open.Goals as goal
 zeros : (k : ℕ) → get_or {A = ℕ} (replicate head_limit 0) k 0 ≡ 0
 zeros = all_alike {A = ℕ} 0 head_limit
 
-pub invariant-of-result : goal.invariant-of-result
-invariant-of-result c =
+pub invariant_of-result : goal.invariant_of-result
+invariant_of-result c =
     let none = sum_same (λ k. get_or {A = ℕ} (replicate head_limit 0) k 0) (λ k. 0) head_limit (λ k h. zeros k) ∙ sum_zero head_limit in
     (refl, (refl, (refl, (refl, (λ k h. omega (arith, zeros k), (omega (arith, none), (λ k h. omega (arith, zeros k), tt)))))))
 

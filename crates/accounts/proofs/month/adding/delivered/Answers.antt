@@ -3,14 +3,14 @@ use Rattle.accounts.proofs.Counting.{one_filled_more}
 use Rattle.accounts.proofs.Growing.{energy_within, taken_within}
 use Rattle.accounts.proofs.month.adding.delivered.Goals as goal
 
-pub by-head-taken-requires : goal.by-head-taken-requires
-by-head-taken-requires g c = rw c.widened.ensures (omega (arith, energy_within c.args.reading.now))
+pub by_head-taken-requires : goal.by_head-taken-requires
+by_head-taken-requires g c = rw c.widened.ensures (omega (arith, energy_within c.args.reading.now))
 
-pub invariant-of-licensees : goal.invariant-of-licensees
-invariant-of-licensees g c =
+pub invariant_of-licensees : goal.invariant_of-licensees
+invariant_of-licensees g c =
     let reading = c.args.reading.now in
     let within = taken_within g.M.Methodology.shape.revenues (g.M.Methodology.meaning c.args.m.now).interval reading reading.demand reading.moderate in
-    (omega arith, (λ k h. omega (arith, rw (c.widened.ensures, c.from-demand.ensures) at (c.by-head-taken.ensures k h), within k), tt))
+    (omega arith, (λ k h. omega (arith, rw (c.widened.ensures, c.from-demand.ensures) at (c.by_head-taken.ensures k h), within k), tt))
 
 pub returns : goal.returns
 returns g c =
@@ -22,7 +22,7 @@ returns g c =
       income = refl;
       sent = refl;
       read = refl;
-      here = rw (get_or-set_same licensees i _ None lt) (λ k h. rw (c.widened.ensures, c.from-demand.ensures) at (c.by-head-taken.ensures k h));
+      here = rw (get_or-set_same licensees i _ None lt) (λ k h. rw (c.widened.ensures, c.from-demand.ensures) at (c.by_head-taken.ensures k h));
       others = λ l n. get_or-set_other licensees i l _ None n;
       deliveries = one_filled_more licensees i _ lt c.requires.1;
     }

@@ -3,28 +3,28 @@ use Rattle.accounts.proofs.Growing.{income_low, sent_low, grown}
 use Rattle.accounts.proofs.Regular.{regular}
 use Rattle.accounts.proofs.month.adding.generated.Goals as goal
 
-pub with-dues-income-requires : goal.with-dues-income-requires
-with-dues-income-requires g c = record { low = income_low c.args.month.now; moderate = c.requires.moderate }
+pub with_dues-income-requires : goal.with_dues-income-requires
+with_dues-income-requires g c = record { low = income_low c.args.month.now; moderate = c.requires.moderate }
 
-pub with-energy-sent-requires : goal.with-energy-sent-requires
-with-energy-sent-requires g c = sent_low c.args.month.now
+pub with_energy-sent-requires : goal.with_energy-sent-requires
+with_energy-sent-requires g c = sent_low c.args.month.now
 
-pub invariant-of-result : goal.invariant-of-result
-invariant-of-result g c =
+pub invariant_of-result : goal.invariant_of-result
+invariant_of-result g c =
     let m = c.args.m.now in
     let month = c.args.month.now in
     let rules = regular g.M.Methodology.shape (g.M.Methodology.meaning m) (g.met.M.Methodology.placed m) (g.met.M.Methodology.supplied m) in
-    let more = grown rules month c.args.reading.now c.args.dues.now c.with-dues-income.ensures.full c.requires.unread c.requires.moderate c.with-dues-income.ensures.value c.with-energy-sent.ensures in
+    let more = grown rules month c.args.reading.now c.args.dues.now c.with_dues-income.ensures.full c.requires.unread c.requires.moderate c.with_dues-income.ensures.value c.with_energy-sent.ensures in
     (omega arith, (omega arith, (length-set _ _ _ ∙ month.full, (month.listed, (more.earned, (more.within, (more.supplied, tt)))))))
 
 pub returns : goal.returns
 returns g c =
     let m = c.args.m.now in
     let rules = regular g.M.Methodology.shape (g.M.Methodology.meaning m) (g.met.M.Methodology.placed m) (g.met.M.Methodology.supplied m) in
-    let more = grown rules c.args.month.now c.args.reading.now c.args.dues.now c.with-dues-income.ensures.full c.requires.unread c.requires.moderate c.with-dues-income.ensures.value c.with-energy-sent.ensures in
+    let more = grown rules c.args.month.now c.args.reading.now c.args.dues.now c.with_dues-income.ensures.full c.requires.unread c.requires.moderate c.with_dues-income.ensures.value c.with_energy-sent.ensures in
     record {
-      income = c.with-dues-income.ensures.value;
-      sent = c.with-energy-sent.ensures;
+      income = c.with_dues-income.ensures.value;
+      sent = c.with_energy-sent.ensures;
       read = refl;
       licensees = refl;
       whole = more.whole;

@@ -7,8 +7,8 @@ use Rattle.agreements.specs.Indexes.{scaled}
 use Rattle.agreements.specs.Rows.{map_from_places}
 use Rattle.agreements.proofs.index.terms.indexed_blocks.Goals as goal
 
-pub overflow-add-sum : goal.overflow-add-sum
-overflow-add-sum c = search rules
+pub overflow_add-sum : goal.overflow_add-sum
+overflow_add-sum c = search rules
 
 pub returns-then-sum-from : goal.returns-then-sum-from
 returns-then-sum-from c =

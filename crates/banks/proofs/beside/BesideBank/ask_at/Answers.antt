@@ -2,8 +2,8 @@ use Rattle.std.proofs.Common.{arith, rules}
 use Rattle.banks.specs.Sides.{at_left, at_right, at_beyond}
 use Rattle.banks.proofs.beside.BesideBank.ask_at.Goals as goal
 
-pub returns-in-err-ask-at : goal.returns-in-err-ask-at
-returns-in-err-ask-at g c =
+pub returns-in_err-ask_at : goal.returns-in_err-ask_at
+returns-in_err-ask_at g c =
     let l = g.L.Bank.row c.args.self.now.left in
     let r = g.R.Bank.row c.args.self.now.right in
     let few = g.met.L.Bank.few c.args.self.now.left in
@@ -25,8 +25,8 @@ returns-then-place-gt-PLACES g c =
     let e = at_beyond l r c.args.place (omega arith) in
     record { answered = search rules; wrote = search rules }
 
-pub returns-in-err-ask-at-2 : goal.returns-in-err-ask-at-2
-returns-in-err-ask-at-2 g c =
+pub returns-in_err-ask_at-2 : goal.returns-in_err-ask_at-2
+returns-in_err-ask_at-2 g c =
     let l = g.L.Bank.row c.args.self.now.left in
     let r = g.R.Bank.row c.args.self.now.right in
     let e = at_right l r c.args.place (omega arith) (omega arith) in

@@ -13,6 +13,6 @@ returns-in-Some-last c =
 pub loop-last-preserved : goal.loop-last-preserved
 loop-last-preserved c =
     let rest = vec_items c.pop.new.self in
-    let items = c.in-Some.ensures.items ∙ ap (λ x. rest ++ (x ∷ [])) c.in-default-last.is in
+    let items = c.in-Some.ensures.items ∙ ap (λ x. rest ++ (x ∷ [])) c.in_default-last.is in
     let long = ap length items ∙ length-append rest (_ ∷ []) in
     (c.loop-last.invariant.0 ∙ ap in_slots items ∙ slots_no_more rest, omega (arith, long, c.loop-last.invariant.1))

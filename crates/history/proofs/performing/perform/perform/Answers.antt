@@ -11,8 +11,8 @@ use Rattle.history.proofs.performing.perform.perform.Goals as goal
 
 pub loop-call-init : goal.loop-call-init
 loop-call-init g c =
-    let room = c.in-ok-answers.ensures in
-    let hand = c.in-ok-hand.ensures in
+    let room = c.in_ok-answers.ensures in
+    let hand = c.in_ok-hand.ensures in
     let none = ap length hand.0 in (
       omega arith,
       omega (arith, room.len),
@@ -21,14 +21,14 @@ loop-call-init g c =
       hand.1,
       refl,
       sym c.if-bears.ensures,
-      performed_none _ _ _ _ _ _ (vec_items c.in-ok-answers.answers) _ refl refl refl c.new-house.ensures.made room.items hand.0,
+      performed_none _ _ _ _ _ _ (vec_items c.in_ok-answers.answers) _ refl refl refl c.new-house.ensures.made room.items hand.0,
     )
 
 pub loop-call-preserved : goal.loop-call-preserved
 loop-call-preserved g c =
     let i = c.loop-call.invariant in
     let e = c.step-answer.ensures in
-    let p = c.push-reserved.ensures in
+    let p = c.push_reserved.ensures in
     let below = c.loop-call-test.true in (
       omega (arith, below),
       omega (arith, p.len, i.1),
@@ -57,7 +57,7 @@ step-answer-requires g c =
       foreign = still_foreign _ _ _ _ _ (slots_of c.loop-call.others) _ _ _ _ i.7 i.5 i.6;
     }
 
-pub invariant-of-result : goal.invariant-of-result
-invariant-of-result g c =
+pub invariant_of-result : goal.invariant_of-result
+invariant_of-result g c =
     let own = all_own _ _ _ _ _ _ _ _ _ c.loop-call.invariant.7 in
     (own.0, (own.1, tt))

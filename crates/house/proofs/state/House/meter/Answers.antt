@@ -10,6 +10,6 @@ unwrap-requires g c =
     let bank = c.args.self.now.bank in
     let reading = c.args.reading.now in
     let place = at_place (g.B.Bank.row bank) reading.number in
-    let admitted : Admitted (shows g.B.Bank g.M.Methodology c.args.self.now) reading = admitted_by _ _ (sym c.in-ok-dues.ensures.said) in
-    let table : c.book-at.new.table ≡ dues_at place reading = c.book-at.ensures.wrote ∙ written_over place reading _ (ap is_ok admitted.bank_takes) in
-    ap is_ok (c.add-reading.ensures.answered ∙ adds c.args.self.now.ledger.month place reading _ admitted.unread (g.met.B.Bank.lawful bank reading.number reading) table)
+    let admitted : Admitted (shows g.B.Bank g.M.Methodology c.args.self.now) reading = admitted_by _ _ (sym c.in_ok-dues.ensures.said) in
+    let table : c.book_at.new.table ≡ dues_at place reading = c.book_at.ensures.wrote ∙ written_over place reading _ (ap is_ok admitted.bank_takes) in
+    ap is_ok (c.add_reading.ensures.answered ∙ adds c.args.self.now.ledger.month place reading _ admitted.unread (g.met.B.Bank.lawful bank reading.number reading) table)

@@ -4,19 +4,19 @@ use Rattle.sheet.specs.Pages.{written}
 use Rattle.sheet.proofs.Adding.{length_part}
 use Rattle.sheet.proofs.page.Page.put.Goals as goal
 
-pub invariant-of-self : goal.invariant-of-self
-invariant-of-self c =
+pub invariant_of-self : goal.invariant_of-self
+invariant_of-self c =
     let p = c.args.self.now in
-    (length_part p.len _ p.bytes c.copy-from-slice.new.self (omega (arith, ap length c.copy-from-slice.ensures.after)) (omega (arith, p.whole)) ∙ p.whole, (omega arith, tt))
+    (length_part p.len _ p.bytes c.copy_from_slice.new.self (omega (arith, ap length c.copy_from_slice.ensures.after)) (omega (arith, p.whole)) ∙ p.whole, (omega arith, tt))
 
 pub returns : goal.returns
 unfolding written
 returns c =
     let p = c.args.self.now in
-    let same : c.copy-from-slice.new.self ≡ c.args.text.now = c.copy-from-slice.ensures.after in
+    let same : c.copy_from_slice.new.self ≡ c.args.text.now = c.copy_from_slice.ensures.after in
     record {
       text = record {
-        behind = take-put_mid p.len _ p.bytes c.copy-from-slice.new.self (p.len + length c.args.text.now) (ap (λ l. p.len + length l) (sym same)) (omega (arith, p.whole, p.within))
+        behind = take-put_mid p.len _ p.bytes c.copy_from_slice.new.self (p.len + length c.args.text.now) (ap (λ l. p.len + length l) (sym same)) (omega (arith, p.whole, p.within))
             ∙ ap (λ l. take p.len p.bytes ++ l) same;
       };
       len = refl;

@@ -11,14 +11,14 @@ returns c =
     let z = c.args.z in
     let fits : SFits w64 z = c.ranges.z in
     let same : to_z w64 (of_z w64 z) ≡ z = to_z-of_z w64 z fits in
-    let size : c.unsigned-abs.result ≡ nat_abs z = rw same at c.unsigned-abs.ensures.value in
+    let size : c.unsigned_abs.result ≡ nat_abs z = rw same at c.unsigned_abs.ensures.value in
     elim c.if-z-lt0.branch [
       | then-z-lt0 w ↦ record {
-        text = then_from (signed_below z _ size (rw same at w.if-z-lt0.true)) w.put.ensures.text w.self-is c.put-number.ensures.text;
+        text = then_from (signed_below z _ size (rw same at w.if-z-lt0.true)) w.put.ensures.text w.self-is c.put_number.ensures.text;
         len = omega (arith, ap (λ (p : Page). p.len) w.self-is, w.put.ensures.len);
       }
       | else-z-lt0 w ↦ record {
-        text = then_from (signed_else z _ size (rw same at w.if-z-lt0.false)) w.put-else-z-lt0.ensures.text w.self-is c.put-number.ensures.text;
+        text = then_from (signed_else z _ size (rw same at w.if-z-lt0.false)) w.put-else-z-lt0.ensures.text w.self-is c.put_number.ensures.text;
         len = omega (arith, ap (λ (p : Page). p.len) w.self-is, w.put-else-z-lt0.ensures.len);
       }
     ]

@@ -8,8 +8,8 @@ returns-then-place-last g c =
     let e = beyond ms c.args.place (omega arith) in
     record { answered = search rules; wrote = search rules }
 
-pub returns-in-err-ask-at : goal.returns-in-err-ask-at
-returns-in-err-ask-at g c =
+pub returns-in_err-ask_at : goal.returns-in_err-ask_at
+returns-in_err-ask_at g c =
     let ms = g.B.Bank.row c.args.self.now.bank in
     let e = turned ms _ c.args.place c.places-last.ensures (omega arith) in
     record { answered = search rules; wrote = search rules }

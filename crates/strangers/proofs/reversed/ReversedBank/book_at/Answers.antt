@@ -8,14 +8,14 @@ returns-then-place-last g c =
     let e = beyond ms c.args.place (omega arith) in
     record { answered = search rules; wrote = search rules; moves = books_beyond ms c.args.place c.args.reading.now (omega arith) }
 
-pub returns-in-err-book-at : goal.returns-in-err-book-at
-returns-in-err-book-at g c =
+pub returns-in_err-book_at : goal.returns-in_err-book_at
+returns-in_err-book_at g c =
     let ms = g.B.Bank.row c.args.self.now.bank in
     let e = turned ms _ c.args.place c.places-last.ensures (omega arith) in
-    record { answered = search rules; wrote = search rules; moves = books_turned ms _ c.args.place c.places-last.ensures (omega arith) c.args.reading.now _ c.book-at.ensures.moves }
+    record { answered = search rules; wrote = search rules; moves = books_turned ms _ c.args.place c.places-last.ensures (omega arith) c.args.reading.now _ c.book_at.ensures.moves }
 
 pub returns : goal.returns
 returns g c =
     let ms = g.B.Bank.row c.args.self.now.bank in
     let e = turned ms _ c.args.place c.places-last.ensures (omega arith) in
-    record { answered = search rules; wrote = search rules; moves = books_turned ms _ c.args.place c.places-last.ensures (omega arith) c.args.reading.now _ c.book-at.ensures.moves }
+    record { answered = search rules; wrote = search rules; moves = books_turned ms _ c.args.place c.places-last.ensures (omega arith) c.args.reading.now _ c.book_at.ensures.moves }

@@ -9,8 +9,8 @@ use Rattle.tariffs.proofs.Adjusting.{adjusted_parts}
 use Rattle.tariffs.proofs.Kept.{kept}
 use Rattle.tariffs.proofs.filed.Filed.adjusted.Goals as goal
 
-pub overflow-cast-self : goal.overflow-cast-self
-overflow-cast-self c =
+pub overflow_cast-self : goal.overflow_cast-self
+overflow_cast-self c =
     let filed = c.args.self.now in
     let limits = kept filed.shape filed.filing filed.fitting in
     record { fits = omega (arith, limits.interest) }

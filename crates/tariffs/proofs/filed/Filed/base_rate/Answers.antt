@@ -4,26 +4,26 @@ use Rattle.tariffs.specs.Publishing.{base_rate}
 use Rattle.tariffs.proofs.Kept.{kept}
 use Rattle.tariffs.proofs.filed.Filed.base_rate.Goals as goal
 
-pub per-cost-requires : goal.per-cost-requires
-per-cost-requires c =
+pub per_cost-requires : goal.per_cost-requires
+per_cost-requires c =
     let filed = c.args.self.now in
     let number = c.args.number in
     let limits = kept filed.shape filed.filing filed.fitting in
-    let early = leb-true number (1 + filed.shape.revenues) (sym c.if-is-demand.ensures.order) in
+    let early = leb-true number (1 + filed.shape.revenues) (sym c.if-is_demand.ensures.order) in
     let inside : number - 1 < 1 + filed.shape.revenues = omega (arith, c.requires) in
     (rw c.figure.ensures (limits.costs (number - 1) inside).1, limits.peaks.0)
 
-pub returns-then-is-demand : goal.returns-then-is-demand
+pub returns-then-is_demand : goal.returns-then-is_demand
 unfolding base_rate
-returns-then-is-demand c = rw (← c.if-is-demand.ensures.value) (rw (c.per-cost.ensures.value, c.figure.ensures) refl)
+returns-then-is_demand c = rw (← c.if-is_demand.ensures.value) (rw (c.per_cost.ensures.value, c.figure.ensures) refl)
 
-pub overflow-cast-result : goal.overflow-cast-result
-overflow-cast-result c =
-    let most = c.scale-thousandths.ensures.most 4 c.coefficient.ensures.most in
-    let double = c.scale-ppm-with-losses.ensures.grown.1 c.factor.ensures.most in
-    record { fits = omega (arith, c.generation-energy.ensures.most) }
+pub overflow_cast-result : goal.overflow_cast-result
+overflow_cast-result c =
+    let most = c.scale_thousandths.ensures.most 4 c.coefficient.ensures.most in
+    let double = c.scale_ppm-with_losses.ensures.grown.1 c.factor.ensures.most in
+    record { fits = omega (arith, c.generation_energy.ensures.most) }
 
 pub returns : goal.returns
 unfolding base_rate
 returns c =
-    rw (← c.if-is-demand.ensures.value) (rw (c.scale-thousandths.ensures.value, c.coefficient.ensures.value, c.scale-ppm-with-losses.ensures.value, c.factor.ensures.value, c.generation-energy.ensures.value) refl)
+    rw (← c.if-is_demand.ensures.value) (rw (c.scale_thousandths.ensures.value, c.coefficient.ensures.value, c.scale_ppm-with_losses.ensures.value, c.factor.ensures.value, c.generation_energy.ensures.value) refl)

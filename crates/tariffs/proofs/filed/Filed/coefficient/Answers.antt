@@ -8,10 +8,10 @@ most c =
     let filed = c.args.self.now in
     let limits = kept filed.shape filed.filing filed.fitting in
     let inside = interval_placed filed.shape c.args.number c.requires.1 in
-    rw (c.figure.ensures, c.interval-place.ensures) (limits.coefficients _ inside).1
+    rw (c.figure.ensures, c.interval_place.ensures) (limits.coefficients _ inside).1
 
-pub overflow-cast-result : goal.overflow-cast-result
-overflow-cast-result c = record { fits = omega (arith, most c) }
+pub overflow_cast-result : goal.overflow_cast-result
+overflow_cast-result c = record { fits = omega (arith, most c) }
 
 pub returns : goal.returns
-returns c = record { value = rw (c.figure.ensures, c.interval-place.ensures) refl; most = most c }
+returns c = record { value = rw (c.figure.ensures, c.interval_place.ensures) refl; most = most c }

@@ -10,16 +10,16 @@ most c =
     let filed = c.args.self.now in
     let limits = kept filed.shape filed.filing filed.fitting in
     let inside = interval_placed filed.shape c.args.number c.requires.1 in
-    rw (c.figure.ensures, c.interval-place.ensures) (limits.factors _ inside).1
+    rw (c.figure.ensures, c.interval_place.ensures) (limits.factors _ inside).1
 
-pub overflow-cast-result : goal.overflow-cast-result
-overflow-cast-result c = record { fits = omega (arith, most c) }
+pub overflow_cast-result : goal.overflow_cast-result
+overflow_cast-result c = record { fits = omega (arith, most c) }
 
-pub returns-then-is-demand : goal.returns-then-is-demand
+pub returns-then-is_demand : goal.returns-then-is_demand
 unfolding filed_factor
-returns-then-is-demand c = record { value = rw (← c.if-is-demand.ensures.value) refl; most = omega arith }
+returns-then-is_demand c = record { value = rw (← c.if-is_demand.ensures.value) refl; most = omega arith }
 
-pub returns-else-is-demand : goal.returns-else-is-demand
+pub returns-else-is_demand : goal.returns-else-is_demand
 unfolding filed_factor
-returns-else-is-demand c =
-    record { value = rw (← c.if-is-demand.ensures.value) (rw (c.figure.ensures, c.interval-place.ensures) refl); most = most c }
+returns-else-is_demand c =
+    record { value = rw (← c.if-is_demand.ensures.value) (rw (c.figure.ensures, c.interval_place.ensures) refl); most = most c }

@@ -4,12 +4,12 @@ use Rattle.std.proofs.lemmas.Bool.Decides.{nat_tests}
 use Rattle.tariffs.specs.Filing.{rows_fit, singles_fit, filing_fits}
 use Rattle.tariffs.proofs.filed.Filed.new.Goals as goal
 
-pub invariant-of-result : goal.invariant-of-result
+pub invariant_of-result : goal.invariant_of-result
 unfolding filing_fits
-invariant-of-result c =
+invariant_of-result c =
     let filing = c.args.filing.now in
-    (and_from (rows_fit c.args.shape filing) (singles_fit filing) (sym c.if-rows-fit.ensures) (sym c.if-singles-fit.ensures), tt)
+    (and_from (rows_fit c.args.shape filing) (singles_fit filing) (sym c.if-rows_fit.ensures) (sym c.if-singles_fit.ensures), tt)
 
-pub returns-else-rows-fit : goal.returns-else-rows-fit
+pub returns-else-rows_fit : goal.returns-else-rows_fit
 unfolding filing_fits
-returns-else-rows-fit c = grind (arith, nat_tests)
+returns-else-rows_fit c = grind (arith, nat_tests)

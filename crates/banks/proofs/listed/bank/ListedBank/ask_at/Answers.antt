@@ -2,15 +2,15 @@ use Rattle.std.proofs.Common.{vec_items, rules}
 use Rattle.banks.specs.Lists.{lacks, has}
 use Rattle.banks.proofs.listed.bank.ListedBank.ask_at.Goals as goal
 
-pub returns-in-default : goal.returns-in-default
-returns-in-default g c =
+pub returns-in_default : goal.returns-in_default
+returns-in_default g c =
     let f = g.T.Agreement.meaning in
     let xs = vec_items c.args.self.now.list in
-    let e = lacks f xs c.args.place c.in-default.ensures in
+    let e = lacks f xs c.args.place c.in_default.ensures in
     record { answered = search rules; wrote = search rules }
 
-pub returns-in-err-ask : goal.returns-in-err-ask
-returns-in-err-ask g c =
+pub returns-in_err-ask : goal.returns-in_err-ask
+returns-in_err-ask g c =
     let f = g.T.Agreement.meaning in
     let xs = vec_items c.args.self.now.list in
     let i = c.in-Some.ensures in
