@@ -16,7 +16,7 @@ pub fn by_head<M: Methodology>(
     blocks: &[u64; BLOCKS],
 ) -> [u64; HEADS]
     requires { total blocks.now < 2 ^ 64 }
-    ensures { (k : ℕ) → k < head_limit → slice_index result k ≡ under shape.revenues (meaning m.now).interval first others blocks.now k }
+    ensures { (k : ℕ) → k < head_limit → slice_index result k ≡ under M.shape.revenues (M.meaning m.now).interval first others blocks.now k }
 {
     let mut all = by_demand(M::shape().revenues, first, others);
     for block in 0..BLOCKS {

@@ -26,8 +26,8 @@ fn finding_of<M: Methodology>(
 ) -> Finding
     requires place { k < head_limit }
     requires some { NoneTaken month.now k → ⊥ }
-    requires supplied { Misfit shape.revenues month.now k → ⊥ }
-    ensures { Found (case_of (rules_of shape (meaning m.now)) books.now rates.now revenues.now.yearly number month.now) k result }
+    requires supplied { Misfit M.shape.revenues month.now k → ⊥ }
+    ensures { Found (case_of (rules_of M.shape (M.meaning m.now)) books.now rates.now revenues.now.yearly number month.now) k result }
 {
     let quantity = quantity_of(month, k);
     let pool = pool_of(books, revenues, M::shape().revenues, number, month, k);
@@ -53,8 +53,8 @@ pub fn findings_of<M: Methodology>(
 ) -> [Finding; HEADS]
     requires few { n ≤ head_limit }
     requires some { Never (NoneTaken month.now) n }
-    requires supplied { Never (Misfit shape.revenues month.now) n }
-    ensures { (k : ℕ) → k < n → Found (case_of (rules_of shape (meaning m.now)) books.now rates.now revenues.now.yearly number month.now) k (finding_at result k) }
+    requires supplied { Never (Misfit M.shape.revenues month.now) n }
+    ensures { (k : ℕ) → k < n → Found (case_of (rules_of M.shape (M.meaning m.now)) books.now rates.now revenues.now.yearly number month.now) k (finding_at result k) }
 {
     let none = Finding {
         actual: 0,

@@ -18,8 +18,8 @@ fn interval_spread<M: Methodology>(
 ) -> (u64, i64)
     requires ratio { (0 < delivered) × (OneToTwo delivered sent) }
     requires limits { (sent ≤ supply_limit) × ((factor ≤ factor_limit) × (pool ≤ pool_limit)) }
-    ensures value { result.0 ≡ spread_of pool sent ((meaning m.now).allowed sent delivered factor) }
-    ensures margin { result.1 ≡ margin_of pool sent ((meaning m.now).allowed sent delivered factor) }
+    ensures value { result.0 ≡ spread_of pool sent ((M.meaning m.now).allowed sent delivered factor) }
+    ensures margin { result.1 ≡ margin_of pool sent ((M.meaning m.now).allowed sent delivered factor) }
     ensures size { unsigned_abs result.1 ≤ pool }
 {
     let supply = m.allowed_supply(sent, delivered, factor);
@@ -37,11 +37,11 @@ pub fn spread_of<M: Methodology>(
     delivered: u64,
     factor: u32,
 ) -> (u64, i64)
-    requires ratio { (0 < delivered) × ((shape.revenues < k → OneToTwo delivered sent)) }
+    requires ratio { (0 < delivered) × ((M.shape.revenues < k → OneToTwo delivered sent)) }
     requires limits { (sent ≤ supply_limit) × ((factor ≤ factor_limit) × (pool ≤ pool_limit)) }
-    ensures value { result.0 ≡ (if nat_le k shape.revenues then pool else spread_of pool sent ((meaning m.now).allowed sent delivered factor)) }
-    ensures margin { result.1 ≡ (if nat_le k shape.revenues then pos 0 else margin_of pool sent ((meaning m.now).allowed sent delivered factor)) }
-    ensures size { unsigned_abs result.1 ≤ (if nat_le k shape.revenues then 0 else pool) }
+    ensures value { result.0 ≡ (if nat_le k M.shape.revenues then pool else spread_of pool sent ((M.meaning m.now).allowed sent delivered factor)) }
+    ensures margin { result.1 ≡ (if nat_le k M.shape.revenues then pos 0 else margin_of pool sent ((M.meaning m.now).allowed sent delivered factor)) }
+    ensures size { unsigned_abs result.1 ≤ (if nat_le k M.shape.revenues then 0 else pool) }
 {
     if k <= M::shape().revenues {
         return (pool, 0);

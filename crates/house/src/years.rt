@@ -12,7 +12,7 @@ use tariffs::{Filing, Row, file_year, publish};
 
 // The market's counts.
 fn shape_of<M: Methodology>() -> Shape
-    ensures { result ≡ shape }
+    ensures { result ≡ M.shape }
 {
     M::shape()
 }

@@ -59,8 +59,8 @@ impl Head {
 
 // The number of the head that a block's energy goes to.
 pub fn head_of_block<M: Methodology>(m: &M, block: usize) -> usize
-    ensures value { block < block_count → result ≡ 1 + shape.revenues + (meaning m.now).interval block }
-    ensures range { block < block_count → (1 + shape.revenues < result) × (result ≤ heads_of shape) }
+    ensures value { block < block_count → result ≡ 1 + M.shape.revenues + (M.meaning m.now).interval block }
+    ensures range { block < block_count → (1 + M.shape.revenues < result) × (result ≤ heads_of M.shape) }
 {
     (1 + M::shape().revenues).saturating_add(m.interval_of(block))
 }

@@ -28,7 +28,7 @@ impl Month {
         dues: &Dues,
     ) -> Result<(), Unadded>
         ensures answered { result ≡ reading_answer self.old reading.now dues.now }
-        ensures after { MatchResult result (λ _. Generated (rules_of shape (meaning m.now)) self.old reading.now dues.now self.new) (λ _. self.new ≡ self.old) }
+        ensures after { MatchResult result (λ _. Generated (rules_of M.shape (M.meaning m.now)) self.old reading.now dues.now self.new) (λ _. self.new ≡ self.old) }
     {
         if self.is_read(reading.number) {
             return Err(Unadded::Again);
@@ -44,7 +44,7 @@ impl Month {
     // Adds a licensee's reading, or leaves the month as it was.
     pub fn add_delivery<M: Methodology>(&mut self, m: &M, reading: &Reading) -> Result<(), Unadded>
         ensures answered { result ≡ delivery_answer self.old reading.now }
-        ensures after { MatchResult result (λ _. Delivered (rules_of shape (meaning m.now)) self.old reading.now self.new) (λ _. self.new ≡ self.old) }
+        ensures after { MatchResult result (λ _. Delivered (rules_of M.shape (M.meaning m.now)) self.old reading.now self.new) (λ _. self.new ≡ self.old) }
     {
         if usize::from(reading.number) > LICENSEES || self.has_delivered(reading.number) {
             return Err(Unadded::Again);
@@ -58,7 +58,7 @@ impl Month {
 fn generated<M: Methodology>(month: &Month, m: &M, reading: &Reading, dues: &Dues) -> Month
     requires unread { read_at month.now reading.now.number ≡ false }
     requires moderate { (capacity_due dues.now ≤ due_limit) × (block_sum dues.now ≤ due_limit) }
-    ensures { Generated (rules_of shape (meaning m.now)) month.now reading.now dues.now result }
+    ensures { Generated (rules_of M.shape (M.meaning m.now)) month.now reading.now dues.now result }
 {
     let income = with_dues(&month.income, m, dues);
     let sent = with_energy(&month.sent, m, reading);
@@ -76,7 +76,7 @@ fn generated<M: Methodology>(month: &Month, m: &M, reading: &Reading, dues: &Due
 fn with_dues<M: Methodology>(income: &[u64; HEADS], m: &M, dues: &Dues) -> [u64; HEADS]
     requires low { (k : ℕ) → k < head_limit → slice_index income.now k ≤ balance_limit }
     requires moderate { (capacity_due dues.now ≤ due_limit) × (block_sum dues.now ≤ due_limit) }
-    ensures value { (k : ℕ) → k < head_limit → slice_index result k ≡ slice_index income.now k + under shape.revenues (meaning m.now).interval (capacity_due dues.now) 0 dues.now.blocks k }
+    ensures value { (k : ℕ) → k < head_limit → slice_index result k ≡ slice_index income.now k + under M.shape.revenues (M.meaning m.now).interval (capacity_due dues.now) 0 dues.now.blocks k }
     ensures full { length dues.now.blocks ≡ block_count }
 {
     added(
@@ -88,7 +88,7 @@ fn with_dues<M: Methodology>(income: &[u64; HEADS], m: &M, dues: &Dues) -> [u64;
 // Energy sent in by head, and the reading's on top of it.
 fn with_energy<M: Methodology>(sent: &[u64; HEADS], m: &M, reading: &Reading) -> [u64; HEADS]
     requires { (k : ℕ) → k < head_limit → slice_index sent.now k ≤ balance_limit }
-    ensures { (k : ℕ) → k < head_limit → slice_index result k ≡ slice_index sent.now k + under shape.revenues (meaning m.now).interval 0 0 reading.now.blocks k }
+    ensures { (k : ℕ) → k < head_limit → slice_index result k ≡ slice_index sent.now k + under M.shape.revenues (M.meaning m.now).interval 0 0 reading.now.blocks k }
 {
     added(sent, &by_head(m, 0, 0, &widened(&reading.blocks)))
 }
@@ -96,7 +96,7 @@ fn with_energy<M: Methodology>(sent: &[u64; HEADS], m: &M, reading: &Reading) ->
 // The month with a licensee's reading.
 fn delivered<M: Methodology>(month: &Month, m: &M, reading: &Reading) -> Month
     requires { (reading.now.number ≤ licensee_limit) × (delivered_at month.now reading.now.number ≡ false) }
-    ensures { Delivered (rules_of shape (meaning m.now)) month.now reading.now result }
+    ensures { Delivered (rules_of M.shape (M.meaning m.now)) month.now reading.now result }
 {
     let demand = u64::from(reading.demand);
     let taken = by_head(m, demand, demand, &widened(&reading.blocks));

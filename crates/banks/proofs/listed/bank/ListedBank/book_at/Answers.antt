@@ -14,7 +14,7 @@ returns-in_err-book g c =
     let f = g.T.Agreement.meaning in
     let xs = vec_items c.args.self.now.list in
     let i = c.in-Some.ensures in
-    let e = has f xs c.args.place c.in-Some.index c.index-mut.result.now i.0 i.1 c.index-mut.ensures.value in
+    let e = has f xs c.args.place c.in-Some.index c.index_mut.result.now i.0 i.1 c.index_mut.ensures.value in
     record { answered = search rules; wrote = search rules; moves = books_item f xs c.args.place c.in-Some.index _ _ c.args.reading.now i.0 e c.book.ensures.moves }
 
 pub returns : goal.returns
@@ -22,5 +22,5 @@ returns g c =
     let f = g.T.Agreement.meaning in
     let xs = vec_items c.args.self.now.list in
     let i = c.in-Some.ensures in
-    let e = has f xs c.args.place c.in-Some.index c.index-mut.result.now i.0 i.1 c.index-mut.ensures.value in
+    let e = has f xs c.args.place c.in-Some.index c.index_mut.result.now i.0 i.1 c.index_mut.ensures.value in
     record { answered = search rules; wrote = search rules; moves = books_item f xs c.args.place c.in-Some.index _ _ c.args.reading.now i.0 e c.book.ensures.moves }
