@@ -10,4 +10,4 @@ invariant_of-result c =
     let row = c.args.filed.now in
     let fits = sym c.fits.ensures ∙ c.if-not-fits.false in
     let bound = filled_bounded (λ j. get_or row.figures j 0) revenue_limit c.loop-j.j yearly_limit c.loop-j.yearly c.loop-j.invariant (λ j h. (row_at 0 yearly_limit c.args.shape.revenues row fits j (omega arith)).1) in
-    (c.loop-j.invariant.sized, ((λ j h. bound j), tt))
+    record { full = c.loop-j.invariant.sized; modest = λ j h. bound j }

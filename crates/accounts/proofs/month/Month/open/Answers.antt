@@ -13,7 +13,15 @@ zeros = all_alike {A = ℕ} 0 head_limit
 pub invariant_of-result : goal.invariant_of-result
 invariant_of-result c =
     let none = sum_same (λ k. get_or {A = ℕ} (replicate head_limit 0) k 0) (λ k. 0) head_limit (λ k h. zeros k) ∙ sum_zero head_limit in
-    (refl, (refl, (refl, (refl, (λ k h. omega (arith, zeros k), (omega (arith, none), (λ k h. omega (arith, zeros k), tt)))))))
+    record {
+      headed = refl;
+      metered = refl;
+      full = refl;
+      listed = refl;
+      earned = λ k h. omega (arith, zeros k);
+      whole = omega (arith, none);
+      supplied = λ k h. omega (arith, zeros k);
+    }
 
 pub returns : goal.returns
 unfolding count_true count_some

@@ -10,7 +10,10 @@ pub invariant_of-licensees : goal.invariant_of-licensees
 invariant_of-licensees g c =
     let reading = c.args.reading.now in
     let within = taken_within g.M.Methodology.shape.revenues (g.M.Methodology.meaning c.args.m.now).interval reading reading.demand reading.moderate in
-    (omega arith, (λ k h. omega (arith, rw (c.widened.ensures, c.from-demand.ensures) at (c.by_head-taken.ensures k h), within k), tt))
+    record {
+      full = omega arith;
+      fair = λ k h. omega (arith, rw (c.widened.ensures, c.from-demand.ensures) at (c.by_head-taken.ensures k h), within k);
+    }
 
 pub returns : goal.returns
 returns g c =

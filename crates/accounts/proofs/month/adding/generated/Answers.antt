@@ -15,7 +15,15 @@ invariant_of-result g c =
     let month = c.args.month.now in
     let rules = regular g.M.Methodology.shape (g.M.Methodology.meaning m) (g.met.M.Methodology.placed m) (g.met.M.Methodology.supplied m) in
     let more = grown rules month c.args.reading.now c.args.dues.now c.with_dues-income.ensures.full c.requires.unread c.requires.moderate c.with_dues-income.ensures.value c.with_energy-sent.ensures in
-    (omega arith, (omega arith, (length-set _ _ _ ∙ month.full, (month.listed, (more.earned, (more.within, (more.supplied, tt)))))))
+    record {
+      headed = omega arith;
+      metered = omega arith;
+      full = length-set _ _ _ ∙ month.full;
+      listed = month.listed;
+      earned = more.earned;
+      whole = more.within;
+      supplied = more.supplied;
+    }
 
 pub returns : goal.returns
 returns g c =

@@ -8,7 +8,7 @@ pub invariant_of-result : goal.invariant_of-result
 unfolding filing_fits
 invariant_of-result c =
     let filing = c.args.filing.now in
-    (and_from (rows_fit c.args.shape filing) (singles_fit filing) (sym c.if-rows_fit.ensures) (sym c.if-singles_fit.ensures), tt)
+    record { fitting = and_from (rows_fit c.args.shape filing) (singles_fit filing) (sym c.if-rows_fit.ensures) (sym c.if-singles_fit.ensures) }
 
 pub returns-else-rows_fit : goal.returns-else-rows_fit
 unfolding filing_fits

@@ -25,7 +25,7 @@ pub invariant_of-result : goal.invariant_of-result
 invariant_of-result c =
     let filed = c.args.self.now in
     let bounds = rated_bounds filed.shape filed.filing c.args.earlier.now c.loop-k.k c.loop-k.published c.loop-k.base c.loop-k.factors c.loop-k.invariant in
-    (c.loop-k.invariant.published_filled.sized, ((λ k h. bounds.0 k), ((λ k h. bounds.1 k), ((λ k h. bounds.2 k), tt))))
+    record { full = c.loop-k.invariant.published_filled.sized; priced = λ k h. bounds.0 k; based = λ k h. bounds.1 k; filed = λ k h. bounds.2 k }
 
 pub returns : goal.returns
 returns c =
