@@ -29,9 +29,9 @@ fn accept(
     number: u8,
     sheet: &mut Sheet,
 )
-    requires within { Never (PastAt books.old findings.now) (heads_of M.shape) }
-    requires modest { (k : ℕ) → k < heads_of M.shape → Modest month.now k (finding_at findings.now k) }
-    ensures { Accepted books.old rates.now.published month.now findings.now M.shape number sheet.new books.new }
+    requires within { Never (PastAt books.old findings.now) (heads_of shape) }
+    requires modest { (k : ℕ) → k < heads_of shape → Modest month.now k (finding_at findings.now k) }
+    ensures { Accepted books.old rates.now.published month.now findings.now shape number sheet.new books.new }
 {
     let n = shape.heads();
     let accounts = settled_accounts(books, findings, n);

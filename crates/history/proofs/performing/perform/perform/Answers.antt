@@ -60,4 +60,4 @@ step-answer-requires g c =
 pub invariant_of-result : goal.invariant_of-result
 invariant_of-result g c =
     let own = all_own _ _ _ _ _ _ _ _ _ c.loop-call.invariant.7 in
-    (own.0, (own.1, tt))
+    record { own = own.0; covered = own.1 }

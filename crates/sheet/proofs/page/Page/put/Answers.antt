@@ -7,7 +7,10 @@ use Rattle.sheet.proofs.page.Page.put.Goals as goal
 pub invariant_of-self : goal.invariant_of-self
 invariant_of-self c =
     let p = c.args.self.now in
-    (length_part p.len _ p.bytes c.copy_from_slice.new.self (omega (arith, ap length c.copy_from_slice.ensures.after)) (omega (arith, p.whole)) ∙ p.whole, (omega arith, tt))
+    record {
+      whole = length_part p.len _ p.bytes c.copy_from_slice.new.self (omega (arith, ap length c.copy_from_slice.ensures.after)) (omega (arith, p.whole)) ∙ p.whole;
+      within = omega arith;
+    }
 
 pub returns : goal.returns
 unfolding written
