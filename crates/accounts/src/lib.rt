@@ -1,4 +1,6 @@
 // The account in plain numbers: the heads' accounts, the licensees' fractions, the open month, the sheet.
+#![tactic(auto)]
+
 pub mod account;
 pub mod books;
 pub mod delivery;

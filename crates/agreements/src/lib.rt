@@ -1,4 +1,6 @@
 // Agreements: what a station is due for a reading.
+#![tactic(auto)]
+
 pub mod agreement;
 pub mod dues;
 pub mod fault;

@@ -1,4 +1,6 @@
 // A tour: banks made in a program and from figures, and what they answer.
+#![tactic(auto)]
+
 use agreements::{Dues, Index, Quota, TwoPart};
 use anyhow::anyhow;
 use banks::{Bank, BankRefusal, Beside, Listed, One, Unplaced};

@@ -1,4 +1,6 @@
 // Arithmetic of the settlement house: a division that answers both numbers, floors of signed numbers, scaling, month shares.
+#![tactic(auto)]
+
 pub mod division;
 pub mod interest;
 pub mod months;

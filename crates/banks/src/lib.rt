@@ -1,4 +1,6 @@
 // Banks: the agreements of a market, each at its place.
+#![tactic(auto)]
+
 pub mod bank;
 pub mod beside;
 pub mod listed;

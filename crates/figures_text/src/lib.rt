@@ -1,4 +1,6 @@
 // The text in which people write the figures of a reading.
+#![tactic(auto)]
+
 mod draft;
 pub mod fault;
 pub mod parse;

@@ -1,4 +1,6 @@
 // The first month of a market with one station and one licensee, closed and printed.
+#![tactic(auto)]
+
 use accounts::Sheet;
 use agreements::TwoPart;
 use anyhow::anyhow;

@@ -1,4 +1,6 @@
 // Histories: lists of calls performed one after another, and the law that holds after each.
+#![tactic(auto)]
+
 pub mod answer;
 pub mod call;
 pub mod orders;

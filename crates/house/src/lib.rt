@@ -1,4 +1,6 @@
 // The settlement house: a bank, a methodology and a ledger under eight calls.
+#![tactic(auto)]
+
 pub mod made;
 pub mod months;
 pub mod payments;

@@ -1,4 +1,6 @@
 // Meter files by example: each limit at and past it, the order of the checks, and what stays when a call refuses.
+#![tactic(auto)]
+
 #[cfg(test)]
 mod checking;
 #[cfg(test)]

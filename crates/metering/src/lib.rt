@@ -1,4 +1,6 @@
 // Readings: what a meter measured in a month, its limits, and why figures are turned down.
+#![tactic(auto)]
+
 pub mod figures;
 pub mod half_hour;
 pub mod header;

@@ -1,4 +1,6 @@
 // Money at the places of a market: what stands there, and the pay orders drawn on it.
+#![tactic(auto)]
+
 pub mod limits;
 pub mod money;
 pub mod order;

@@ -1,4 +1,6 @@
 // A methodology unlike the house's two: no allowed revenue, five intervals, half of the losses allowed.
+#![tactic(auto)]
+
 ghost use Rattle.std.specs.Prelude.{◌≡◌, ◌+◌, ◌*◌, ◌/◌, ◌<◌};
 ghost use Rattle.metering.specs.Limits.{block_count};
 ghost use Rattle.other_methodology.specs.Fifths.{fifths_shape, fifths_meaning};

@@ -1,4 +1,6 @@
 // What a tariff and a year put in force: rates by head, and yearly allowed revenues.
+#![tactic(auto)]
+
 pub mod published;
 pub mod revenues;
 

@@ -1,4 +1,6 @@
 // The text of a sheet.
+#![tactic(auto)]
+
 mod digits;
 mod lines;
 mod page;

@@ -1,4 +1,6 @@
 // Stations: agreements and a bank made while a program runs, from figures that an operator files.
+#![tactic(auto)]
+
 pub mod base;
 pub mod figures;
 pub mod station;

@@ -1,4 +1,6 @@
 // Filing: a year's allowed revenues, and the tariffs that set the rates.
+#![tactic(auto)]
+
 mod filed;
 pub mod filing;
 mod fitting;
