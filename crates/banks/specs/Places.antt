@@ -1,10 +1,10 @@
 -- A row, place by place.
-use Rattle.std.specs.Prelude.{◌≡◌, ℕ, ◌-◌, ◌<◌, ◌≤◌, true, false, cond, ◌&&◌, ◌⊎◌, List, length, Some, None, Option, ◌≢◌, nat_le, slice_index_or, slice_set, refl}
+use Rattle.std.specs.Prelude.{◌≡◌, ℕ, ◌-◌, ◌<◌, ◌≤◌, cond, ◌&&◌, List, length, Some, None, Option, ◌≢◌, nat_le, slice_index_or, slice_set, refl}
 use Rattle.std.proofs.Common.{sym, ap, subst, ◌∙◌, ⊎_elim, arith}
 use Rattle.std.proofs.lemmas.List.{length-set, get_or-set_other}
 use Rattle.std.proofs.lemmas.Bool.{cases_eq, cases_lt, le-leb, lt-leb, and_from, and_left, and_right, cond-true, cond-false}
 use Rattle.metering.specs.declared.reading.Reading.{Reading}
-use Rattle.agreements.specs.Meaning.{Meaning, moved}
+use Rattle.agreements.specs.Meaning.{Meaning}
 use Rattle.banks.specs.Rows.{nowhere, at_place, put_at, moved_at, Books}
 
 pub at_in : (ms : List Meaning) (k : ℕ) → 1 ≤ k → k ≤ length ms → at_place ms k ≡ Some (slice_index_or ms (k - 1) nowhere)

@@ -1,5 +1,5 @@
 -- Orders in hand are held one after another.
-use Rattle.std.proofs.Common.{◌≡◌, ℕ, ◌+◌, ◌-◌, ◌*◌, ◌<◌, ◌≤◌, Bool, true, false, ◌&&◌, eqb, leb, List, [], ◌∷◌, ◌++◌, Ok, Err, Result, sym, refl, ap, ◌∙◌, subst, arith}
+use Rattle.std.proofs.Common.{◌≡◌, ℕ, ◌+◌, ◌*◌, ◌≤◌, true, List, [], ◌∷◌, ◌++◌, Ok, Err, sym, refl, ap, ◌∙◌, arith}
 use Rattle.std.proofs.lemmas.Bool.{eqb-true, eq-eqb, le-leb, and_parts, and_from, false≢true}
 use Rattle.orders.specs.declared.order.PayOrder.{PayOrder}
 use Rattle.orders.specs.declared.order.Returned.{Returned}
@@ -7,7 +7,7 @@ use Rattle.orders.specs.Limits.{cent}
 use Rattle.orders.specs.Tills.{stands, ordered_at, mine}
 use Rattle.ledger.specs.Views.{View, till_of, with_till}
 use Rattle.ledger.specs.Calls as calls
-use Rattle.ledger.specs.Accepted.{cents_at, in_hand}
+use Rattle.ledger.specs.Accepted.{in_hand}
 use Rattle.ledger.proofs.Hand.{by_place, cents_here, cents_there, in_hand_more}
 use Rattle.history.specs.Bearing.{all_bear}
 use Rattle.history.specs.Holding.{AllHeld}

@@ -1,10 +1,9 @@
 -- Each call of a list adds one event to its history, or none where the order that it names is not there.
-use Rattle.std.proofs.Common.{◌≡◌, ℕ, zero, suc, ◌+◌, ◌-◌, ◌<◌, ◌≤◌, true, false, ◌&&◌, ◌⊎◌, List, [], ◌∷◌, ◌++◌, length, get_or, take, Some, None, Ok, Err, Option, Result, sym, refl, ap, ◌∙◌, subst, inl, inr, arith, length-append, take_all}
+use Rattle.std.proofs.Common.{◌≡◌, ℕ, zero, suc, ◌+◌, ◌-◌, ◌<◌, ◌≤◌, true, List, [], ◌∷◌, ◌++◌, length, get_or, take, Some, None, Ok, Err, Option, Result, sym, refl, ap, ◌∙◌, subst, inl, inr, arith, length-append, take_all}
 use Rattle.std.proofs.lemmas.List.{take_more}
 use Rattle.std.proofs.lemmas.Bool.{eqb-true, eqb-false, eq-eqb, and_parts, and_from, or_parts}
 use Rattle.metering.specs.declared.reading.Reading.{Reading}
 use Rattle.agreements.specs.Meaning.{Meaning}
-use Rattle.banks.specs.Rows.{at_place}
 use Rattle.methodology.specs.Meaning.{Meaning as Market}
 use Rattle.methodology.specs.declared.shape.Shape.{Shape}
 use Rattle.accounts.specs.declared.sheet.Sheet.{Sheet}
@@ -12,7 +11,6 @@ use Rattle.tariffs.specs.declared.row.Row.{Row}
 use Rattle.tariffs.specs.declared.filing.Filing.{Filing}
 use Rattle.settlement.proofs.Keeping.{every_closing}
 use Rattle.orders.specs.declared.order.PayOrder.{PayOrder}
-use Rattle.orders.specs.declared.order.Paid.{Paid}
 use Rattle.orders.specs.declared.order.Returned.{Returned}
 use Rattle.orders.specs.Tills.{mine, ordered_at}
 use Rattle.ledger.specs.declared.refusal.Refusal.{Refusal}
@@ -33,10 +31,10 @@ use Rattle.history.specs.declared.call.Spending.{Spending}
 use Rattle.history.specs.declared.call.Spending.TheVariants.{Release, Hold}
 use Rattle.history.specs.declared.call.Stated.{Stated}
 use Rattle.history.specs.declared.answer.Answer.{Answer}
-use Rattle.history.specs.declared.answer.Answer.TheVariants.{Metered, Absent}
-use Rattle.history.specs.Slots.{slot, without, in_slots}
-use Rattle.history.specs.Presenting.{Spends, After, Presented, Missing, Presentation}
-use Rattle.history.specs.Histories.{told, answer_to, named, hand_drawn, hand_spent, Makes, Lacks, History, begun, made, lacking, Performed, Next}
+use Rattle.history.specs.declared.answer.Answer.TheVariants.{Metered}
+use Rattle.history.specs.Slots.{slot, in_slots}
+use Rattle.history.specs.Presenting.{Spends, After, Missing, Presentation}
+use Rattle.history.specs.Histories.{told, answer_to, named, hand_drawn, Makes, History, begun, made, lacking, Performed, Next}
 use Rattle.history.specs.Bearing.{any_bears, all_bear, Foreign}
 use Rattle.history.specs.Steps.{meter_told, Meters, close_told, Closes, draw_told, Draws}
 use Rattle.history.proofs.Slots.{none_not_some, some_same, numbered, without_long, among_slots, slots_more}

@@ -1,5 +1,5 @@
 -- What an accepted reading has passed.
-use Rattle.std.proofs.Common.{◌≡◌, ℕ, ◌≤◌, Bool, true, false, cond, not, ◌&&◌, leb, is_some, is_ok, Some, None, Ok, Err, Option, Result, sym, refl, ap, ◌∙◌, subst, arith}
+use Rattle.std.proofs.Common.{◌≡◌, ◌≤◌, true, false, not, ◌&&◌, leb, is_some, is_ok, Some, None, Ok, Err, Option, Result, refl, ap, ◌∙◌, arith}
 use Rattle.std.proofs.lemmas.Bool.{le-leb, and_from, not-true, cond-true, cond-false, false≢true}
 use Rattle.metering.specs.declared.reading.Reading.{Reading}
 use Rattle.agreements.specs.declared.dues.Dues.{Dues}
@@ -11,10 +11,9 @@ use Rattle.banks.specs.declared.refusal.BankRefusal.{BankRefusal}
 use Rattle.accounts.specs.declared.month.Month.{Month}
 use Rattle.accounts.specs.Months.{read_at, reading_answer}
 use Rattle.orders.specs.Tills.{room}
-use Rattle.ledger.specs.declared.refusal.Refusal.{Refusal}
 use Rattle.ledger.specs.declared.refusal.Refusal.TheVariants.{WrongKind, NoMonth, NoPlace, Again, TooMuch}
 use Rattle.ledger.specs.Views.{View, month_of, till_of, in_month}
-use Rattle.ledger.specs.Verdicts.{Verdict, accepted, must, bank_says, ◌and_then◌}
+use Rattle.ledger.specs.Verdicts.{Verdict, accepted, bank_says, ◌and_then◌}
 use Rattle.ledger.specs.Terms.{worth, dues_at}
 use Rattle.ledger.specs.Calls.{meter_verdict, of_generator}
 use Rattle.ledger.proofs.Months.{passed, must_accept, refused_not}

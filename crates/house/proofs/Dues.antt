@@ -1,9 +1,9 @@
 -- What a bank gives keeps the ceiling, at every place.
-use Rattle.std.proofs.Common.{◌≡◌, ℕ, ◌≤◌, Some, None, Option, refl, subst, arith}
+use Rattle.std.proofs.Common.{◌≤◌, Some, None, Option, arith}
 use Rattle.metering.specs.declared.reading.Reading.{Reading}
 use Rattle.agreements.specs.Dues.{capacity_due, block_sum}
 use Rattle.agreements.specs.Limits.{due_limit}
-use Rattle.agreements.specs.Meaning.{Meaning, Answer, admitted, refused, answer, written, Within, Lawful}
+use Rattle.agreements.specs.Meaning.{Meaning, Answer, admitted, refused, answer, written, Within}
 use Rattle.agreements.specs.Dues.{no_dues}
 use Rattle.banks.specs.Rows.{LawfulAt}
 use Rattle.ledger.specs.Terms.{dues_at}

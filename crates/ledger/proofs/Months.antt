@@ -1,5 +1,5 @@
 -- The account over the closed months adds up after every list of calls.
-use Rattle.std.proofs.Common.{◌≡◌, ℕ, zero, suc, ◌+◌, ◌-◌, ◌*◌, ◌<◌, ◌≤◌, Bool, true, false, cond, not, ◌⊎◌, List, [], ◌∷◌, ◌++◌, get_or, ℤ, pos, ◌+ℤ◌, is_some, Some, None, Ok, Err, Option, Result, sym, refl, ap, ◌∙◌, subst, inl, inr, ⊎_elim, arith}
+use Rattle.std.proofs.Common.{◌≡◌, ℕ, zero, suc, ◌+◌, ◌-◌, ◌<◌, ◌≤◌, Bool, true, false, not, List, ◌∷◌, get_or, pos, ◌+ℤ◌, is_some, Some, None, Ok, Err, Option, Result, sym, refl, ap, ◌∙◌, subst, ⊎_elim, arith}
 use Rattle.std.proofs.lemmas.Int.{ints}
 use Rattle.std.proofs.lemmas.Bool.{cases_eq, false≢true}
 use Rattle.metering.specs.declared.reading.Kind.{Kind}
@@ -13,37 +13,34 @@ use Rattle.methodology.specs.Limits.{head_limit}
 use Rattle.methodology.specs.Meaning.{Meaning as Market}
 use Rattle.methodology.specs.declared.shape.Shape.{Shape}
 use Rattle.accounts.specs.declared.books.Books.{Books}
-use Rattle.accounts.specs.declared.account.Account.{Account as HeadAccount}
 use Rattle.accounts.specs.declared.delivery.Delivery.{Delivery}
-use Rattle.accounts.specs.declared.sheet.Billed.{Billed}
 use Rattle.accounts.specs.declared.sheet.HeadLine.{HeadLine}
 use Rattle.accounts.specs.declared.month.Month.{Month}
 use Rattle.accounts.specs.declared.sheet.Sheet.{Sheet}
 use Rattle.accounts.specs.Limits.{licensee_limit}
-use Rattle.accounts.specs.Sums.{sum_to, sum_toℤ, Never}
+use Rattle.accounts.specs.Sums.{sum_to, sum_toℤ}
 use Rattle.accounts.specs.Rules.{Rules, rules_of, head_count}
-use Rattle.accounts.specs.Books.{account_at, fraction_at, PeriodBegun}
-use Rattle.accounts.specs.Months.{licensee_at, taken, Took, delivered_at, income_of, Opened, Generated, Delivered}
+use Rattle.accounts.specs.Books.{account_at, fraction_at}
+use Rattle.accounts.specs.Months.{licensee_at, taken, Took, delivered_at, income_of, Opened}
 use Rattle.accounts.proofs.Sums.{sum_same, sumℤ_same, sum_zero}
 use Rattle.tariffs.specs.declared.row.Row.{Row}
 use Rattle.tariffs.specs.declared.filing.Filing.{Filing}
-use Rattle.settlement.specs.Closing.{Case, quantity, quantity_in, heads}
+use Rattle.settlement.specs.Closing.{Case, quantity, quantity_in}
 use Rattle.accounts.specs.Sheets.{line_at, billed_at}
-use Rattle.settlement.specs.Closed.{line_of, billed_of, fraction_of, Closed}
-use Rattle.settlement.specs.Law.{fractions_in, balances_in, carries_in, bills_on, EveryClosing, Lawful}
+use Rattle.settlement.specs.Closed.{billed_of, fraction_of}
+use Rattle.settlement.specs.Law.{bills_on, EveryClosing, Lawful}
 use Rattle.orders.specs.declared.order.PayOrder.{PayOrder}
 use Rattle.orders.specs.declared.order.Paid.{Paid}
 use Rattle.orders.specs.declared.order.Returned.{Returned}
-use Rattle.orders.specs.Limits.{cent}
 use Rattle.ledger.specs.declared.refusal.Refusal.{Refusal}
 use Rattle.ledger.specs.declared.refusal.Refusal.TheVariants.{WrongKind, NoMonth, Again}
 use Rattle.ledger.specs.Views.{View, rules, month_of, books_of, in_month}
 use Rattle.ledger.specs.Verdicts.{Verdict, accepted, refused, must, ◌and_then◌}
 use Rattle.ledger.specs.Terms.{worth, dues_at, place_after}
-use Rattle.ledger.specs.Calls.{NewHouse, Year, YearFiled, Tariff, TariffPublished, Meter, Metered, Deliver, DeliveryTaken, deliver_verdict, of_generator, Close, MonthClosed, case_at, Draw, Release, Hold}
+use Rattle.ledger.specs.Calls.{Year, YearFiled, Tariff, TariffPublished, Meter, Metered, Deliver, DeliveryTaken, deliver_verdict, of_generator, Close, MonthClosed, case_at, Draw, Release, Hold}
 use Rattle.ledger.specs.Runs.{Event, filed, priced, metered, delivered, closed, drew, released, held, Run, new, year, tariff, meter, deliver, close, draw, release, hold}
 use Rattle.ledger.specs.Accepted.{some_or, year_of, reading_of, delivery_of, sheet_of, accepted_at, due_after, open_dues, closed_dues, taken_under, open_quantity, last_quantity, yearly, allowed, billed, margins, last_balance, last_carry, last_fraction, last_sheet}
-use Rattle.ledger.specs.Law.{Carried, Account, Keeps, Law, head_number, EveryRun}
+use Rattle.ledger.specs.Law.{Carried, Account, Keeps, head_number, EveryRun}
 use Rattle.ledger.proofs.Places.{Held, held_after}
 
 -- what the accepted calls brought is what the house has counted

@@ -1,10 +1,10 @@
 -- The money of each place adds up after every list of calls.
-use Rattle.std.proofs.Common.{◌≡◌, ℕ, ◌+◌, ◌-◌, ◌*◌, ◌/◌, ◌%◌, ◌<◌, ◌≤◌, Bool, true, false, cond, ◌&&◌, eqb, leb, List, [], ◌∷◌, ◌++◌, Some, None, Ok, Err, Option, Result, sym, refl, ap, ◌∙◌, subst, append-nil, arith}
+use Rattle.std.proofs.Common.{◌≡◌, ℕ, ◌+◌, ◌-◌, ◌*◌, ◌≤◌, true, cond, eqb, List, [], ◌∷◌, ◌++◌, Some, None, Ok, Err, Option, Result, sym, refl, ap, ◌∙◌, append-nil, arith}
 use Rattle.std.proofs.lemmas.Bool.{eqb-true, and_parts}
 use Rattle.std.specs.Option.{option_map}
 use Rattle.metering.specs.declared.reading.Reading.{Reading}
 use Rattle.agreements.specs.Meaning.{Meaning, moved}
-use Rattle.banks.specs.Rows.{at_place, moved_at}
+use Rattle.banks.specs.Rows.{at_place}
 use Rattle.methodology.specs.Meaning.{Meaning as Market}
 use Rattle.methodology.specs.declared.shape.Shape.{Shape}
 use Rattle.accounts.specs.declared.sheet.Sheet.{Sheet}
@@ -15,12 +15,12 @@ use Rattle.orders.specs.declared.order.Paid.{Paid}
 use Rattle.orders.specs.declared.order.Returned.{Returned}
 use Rattle.orders.specs.declared.till.Till.{Till}
 use Rattle.orders.specs.Limits.{cent}
-use Rattle.orders.specs.Tills.{stands, ordered_at, mine, Puts, Drawn}
+use Rattle.orders.specs.Tills.{stands, ordered_at, mine, Puts}
 use Rattle.ledger.specs.declared.refusal.Refusal.{Refusal}
 use Rattle.ledger.specs.Views.{View, till_of}
 use Rattle.ledger.specs.Terms.{worth, dues_at, place_after, given_at}
-use Rattle.ledger.specs.Calls.{NewHouse, Year, Tariff, Meter, Metered, Deliver, Close, Draw, OrderDrawn, Release, Hold}
-use Rattle.ledger.specs.Runs.{Event, filed, priced, metered, delivered, closed, drew, released, held, Among, first, later, Presents, own, other, with_drawn, with_presented, Run, new, year, tariff, meter, deliver, close, draw, release, hold}
+use Rattle.ledger.specs.Calls.{Year, Tariff, Meter, Metered, Deliver, Close, Draw, OrderDrawn, Release, Hold}
+use Rattle.ledger.specs.Runs.{Event, filed, priced, metered, delivered, closed, drew, released, held, Among, Presents, own, other, with_drawn, with_presented, Run, new, year, tariff, meter, deliver, close, draw, release, hold}
 use Rattle.ledger.specs.Accepted.{some_or, reading_of, payment_of, accepted_at, paid_at, cents_at, in_hand}
 use Rattle.ledger.specs.Law.{Settled}
 use Rattle.ledger.proofs.Terms.{place_after_more, given_at_more, at_moved}

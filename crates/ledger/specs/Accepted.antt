@@ -1,12 +1,11 @@
 -- What the accepted calls of a list brought, the last call first.
-use Rattle.std.specs.Prelude.{ℕ, ◌+◌, ◌*◌, cond, List, [], ◌∷◌, ◌++◌, ℤ, pos, ◌+ℤ◌, Some, None, Ok, Err, Option, Result, ◌==◌, slice_index}
+use Rattle.std.specs.Prelude.{ℕ, ◌+◌, cond, List, [], ◌∷◌, ◌++◌, ℤ, pos, ◌+ℤ◌, Some, None, Ok, Err, Option, Result, ◌==◌, slice_index}
 use Rattle.metering.specs.declared.reading.Reading.{Reading}
 use Rattle.agreements.specs.Meaning.{Meaning}
 use Rattle.banks.specs.Rows.{at_place}
 use Rattle.arith.specs.Months.{share as month-share}
 use Rattle.accounts.specs.declared.sheet.Sheet.{Sheet}
-use Rattle.accounts.specs.Limits.{licensee_limit}
-use Rattle.accounts.specs.Sums.{sum_to, sum_toℤ}
+use Rattle.accounts.specs.Sums.{sum_to}
 use Rattle.accounts.specs.Rules.{Rules}
 use Rattle.accounts.specs.Tables.{under}
 use Rattle.tariffs.specs.declared.row.Row.{Row}

@@ -1,12 +1,10 @@
 -- What each call of a house answers and leaves: a relation between what the house shows before and after.
-use Rattle.std.specs.Prelude.{◌≡◌, ℕ, ◌+◌, ◌-◌, ◌*◌, ◌<◌, ◌≤◌, Bool, true, false, not, ◌⊎◌, is_some, Ok, Err, Result, nat_le, slice_index}
+use Rattle.std.specs.Prelude.{◌≡◌, ℕ, ◌+◌, Bool, true, false, not, ◌⊎◌, is_some, Ok, Err, Result, nat_le, slice_index}
 use Rattle.metering.specs.declared.reading.Kind.{Kind}
 use Rattle.metering.specs.declared.reading.Kind.TheVariants.{Generator, Licensee}
 use Rattle.metering.specs.declared.reading.Reading.{Reading}
 use Rattle.banks.specs.Rows.{at_place, outcome_at, Books as Booked}
-use Rattle.rates.specs.declared.published.Rates.{Rates}
 use Rattle.accounts.specs.declared.sheet.Sheet.{Sheet}
-use Rattle.accounts.specs.declared.books.Books.{Books}
 use Rattle.accounts.specs.Books.{Unused, PeriodBegun, earlier}
 use Rattle.accounts.specs.Months.{read_at, delivered_at, Opened, Generated, Delivered}
 use Rattle.tariffs.specs.declared.row.Row.{Row}
@@ -23,7 +21,6 @@ use Rattle.orders.specs.declared.order.Returned.{Returned}
 use Rattle.orders.specs.Limits.{cent}
 use Rattle.orders.specs.Tills.{stands, ordered_at, room, New, Puts, Drawn, Releases, Holds}
 use Rattle.ledger.specs.declared.stage.Half.{Half}
-use Rattle.ledger.specs.declared.stage.Stage.{Stage}
 use Rattle.ledger.specs.declared.stage.Stage.TheVariants.{BeforeYear, BeforeTariff, InMonth}
 use Rattle.ledger.specs.declared.refusal.Refusal.{Refusal}
 use Rattle.ledger.specs.declared.refusal.Refusal.TheVariants.{WrongKind, NoMonth, NoPlace, Again, TooMuch, NotNow, Misallowed, UnderACent}

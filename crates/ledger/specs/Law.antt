@@ -1,5 +1,5 @@
 -- The law over every list of calls: what the money of a house comes to.
-use Rattle.std.specs.Prelude.{◌≡◌, ℕ, ◌+◌, ◌*◌, ◌<◌, ◌≤◌, List, ℤ, pos, ◌+ℤ◌, Some, None, Option}
+use Rattle.std.specs.Prelude.{◌≡◌, ℕ, ◌+◌, ◌*◌, ◌<◌, ◌≤◌, List, pos, ◌+ℤ◌, Some, None, Option}
 use Rattle.agreements.specs.Meaning.{Meaning}
 use Rattle.banks.specs.Rows.{at_place}
 use Rattle.methodology.specs.Meaning.{Meaning as Market}

@@ -1,5 +1,5 @@
 -- Limits of the money at a place.
-use Rattle.std.specs.Prelude.{ℕ, ◌*◌, ◌^◌}
+use Rattle.std.specs.Prelude.{ℕ}
 use Rattle.metering.specs.Limits.{number_limit}
 use Rattle.metering.specs.declared.reading.Kind.TheVariants.{Generator}
 

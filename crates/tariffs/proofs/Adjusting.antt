@@ -1,5 +1,5 @@
 -- A head's adjustment, and its tests as one.
-use Rattle.std.proofs.Common.{◌≡◌, ℕ, zero, suc, ◌^◌, ◌<◌, ◌≤◌, true, false, ◌&&◌, T, leb, ℤ, pos, negsuc, ◌+ℤ◌, nat_abs, Ok, refl, le_trans, arith, w64, SFits, to_z, of_z}
+use Rattle.std.proofs.Common.{◌≡◌, ℕ, zero, suc, ◌^◌, ◌<◌, ◌≤◌, true, ◌&&◌, T, leb, ℤ, pos, negsuc, ◌+ℤ◌, nat_abs, Ok, refl, le_trans, arith, w64, SFits, to_z, of_z}
 use lib.Signed.{le_z, non_neg}
 use mir.Syntax.{w128}
 use Rattle.std.proofs.lemmas.Int.{ints, to_z-of_z}

@@ -1,4 +1,4 @@
-use Rattle.std.proofs.Common.{not, drop, sym, ap, arith}
+use Rattle.std.proofs.Common.{not, sym, ap, arith}
 use Rattle.std.proofs.lemmas.List.Sums.{prefix_len-drop_yes, prefix_len-drop_no, prefix_len-drop_all}
 use Rattle.figures_text.specs.Words.{ends}
 use Rattle.figures_text.proofs.words.reach.Goals as goal

@@ -1,5 +1,4 @@
-use Rattle.std.proofs.Common.{◌≡◌, ◌-◌, ◌≤◌, length, set, Some, Ok, Err, sym, refl, ap, ◌∙◌, subst, inl, inr, arith}
-use Rattle.orders.specs.declared.order.PayOrder.{PayOrder}
+use Rattle.std.proofs.Common.{◌≡◌, length, Ok, Err, sym, refl, ap, ◌∙◌, inl, inr, arith}
 use Rattle.history.specs.Slots.{slots_of, slot}
 use Rattle.history.proofs.Slots.{numbered, without_none, without_long, taken_slot, back_again, returned_order}
 use Rattle.history.proofs.presenting.present.Goals as goal

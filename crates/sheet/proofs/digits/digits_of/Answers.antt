@@ -1,4 +1,4 @@
-use Rattle.std.proofs.Common.{◌≡◌, ◌+◌, ◌-◌, ◌<◌, arith}
+use Rattle.std.proofs.Common.{◌-◌, ◌<◌, arith}
 use Rattle.sheet.proofs.Figuring.{figuring_room, figuring_more, figuring_all}
 use Rattle.sheet.proofs.digits.digits_of.Goals as goal
 

@@ -1,7 +1,6 @@
-use Rattle.std.proofs.Common.{◌≡◌, map, length, pos, sym, ◌∙◌, arith}
+use Rattle.std.proofs.Common.{◌≡◌, length, pos, sym, ◌∙◌, arith}
 use lib.ListN.{length-map}
 use Rattle.std.proofs.lemmas.List.{ext_get_or, get_or-map}
-use Rattle.methodology.specs.Limits.{head_limit}
 use Rattle.accounts.specs.declared.account.Account.{Account}
 use Rattle.accounts.specs.Books.{earlier, no_account}
 use Rattle.accounts.proofs.books.Books.earlier.Goals as goal

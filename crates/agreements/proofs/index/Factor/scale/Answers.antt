@@ -1,5 +1,4 @@
 use Rattle.std.proofs.Common.{rules}
-use Rattle.agreements.specs.Indexes.{scaled}
 use Rattle.agreements.specs.Indexing.{scaled_at_most}
 use Rattle.agreements.proofs.index.Factor.scale.Goals as goal
 

@@ -1,4 +1,4 @@
-use Rattle.std.proofs.Common.{◌+◌, ◌<◌, map, length, get_or, take, sum_by, sum, ap, arith, rules}
+use Rattle.std.proofs.Common.{◌+◌, ◌<◌, length, get_or, sum_by, sum, ap, arith, rules}
 use Rattle.std.proofs.lemmas.List.Edits.{fill_by_more}
 use Rattle.std.proofs.lemmas.List.{take_all}
 use Rattle.std.proofs.lemmas.List.Sums.{sum-map, sum_by_more, sum_by-take-le}

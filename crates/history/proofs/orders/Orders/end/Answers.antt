@@ -1,4 +1,4 @@
-use Rattle.std.proofs.Common.{◌≡◌, length, arith}
+use Rattle.std.proofs.Common.{arith}
 use Rattle.history.specs.Slots.{slots_of}
 use Rattle.history.proofs.Slots.{none_left}
 use Rattle.history.proofs.orders.Orders.end.Goals as goal

@@ -1,5 +1,5 @@
-use Rattle.std.proofs.Common.{◌≡◌, [], ◌∷◌, ◌++◌, length, vec_items, ap, ◌∙◌, arith, length-append}
-use Rattle.history.specs.Slots.{slots_of, in_slots}
+use Rattle.std.proofs.Common.{[], ◌∷◌, ◌++◌, length, vec_items, ap, ◌∙◌, arith, length-append}
+use Rattle.history.specs.Slots.{in_slots}
 use Rattle.history.proofs.Slots.{slots_more, slots_no_more}
 use Rattle.history.proofs.orders.Orders.take_last.Goals as goal
 

@@ -1,6 +1,6 @@
-use Rattle.std.proofs.Common.{◌≡◌, ◌+◌, true, false, ◌||◌, drop, sym, ap, ◌∙◌}
+use Rattle.std.proofs.Common.{◌+◌, ◌||◌, drop, sym, ap, ◌∙◌}
 use Rattle.std.proofs.lemmas.List.{drop_all}
-use Rattle.history.specs.Bearing.{any_bears, slot_bears}
+use Rattle.history.specs.Bearing.{any_bears}
 use Rattle.history.proofs.Slots.{bears_from}
 use Rattle.history.proofs.orders.keeping.any_bears.Goals as goal
 

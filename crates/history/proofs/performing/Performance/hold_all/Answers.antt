@@ -1,7 +1,7 @@
-use Rattle.std.proofs.Common.{◌≡◌, [], ◌∷◌, ◌++◌, refl, ap, ◌∙◌, subst}
+use Rattle.std.proofs.Common.{refl, subst}
 use Rattle.house.specs.Shown.{shows}
 use Rattle.history.specs.Slots.{slots_of, in_slots}
-use Rattle.history.proofs.Holding.{Holding, not_returned, held_one, all_held}
+use Rattle.history.proofs.Holding.{Holding, not_returned, held_one}
 use Rattle.history.proofs.performing.Performance.hold_all.Goals as goal
 
 pub loop-order-init : goal.loop-order-init

@@ -1,11 +1,5 @@
-use Rattle.std.proofs.Common.{◌≡◌, ℕ, ◌+◌, ◌≤◌, List, [], ◌∷◌, ◌++◌, length, take, vec_items, sym, refl, ap, ◌∙◌, subst, arith, take_all, rules}
-use Rattle.std.proofs.lemmas.List.{take_more}
-use Rattle.house.specs.Shown.{shows}
-use Rattle.history.specs.declared.call.Call.{Call}
-use Rattle.history.specs.declared.answer.Answer.{Answer}
+use Rattle.std.proofs.Common.{length, vec_items, sym, refl, ap, ◌∙◌, arith}
 use Rattle.history.specs.Slots.{slots_of}
-use Rattle.history.specs.Bearing.{Foreign}
-use Rattle.history.specs.Histories.{Performed, Next}
 use Rattle.history.proofs.Steps.{performed_none, one_more, all_taken, still_foreign, all_own}
 use Rattle.history.proofs.performing.perform.perform.Goals as goal
 

@@ -1,4 +1,4 @@
-use Rattle.std.proofs.Common.{refl, rules}
+use Rattle.std.proofs.Common.{refl}
 use Rattle.settlement.proofs.Keeping.{every_closing}
 use Rattle.ledger.proofs.Months.{every_run}
 use Rattle.house.proofs.state.House.new.Goals as goal

@@ -1,4 +1,4 @@
-use Rattle.std.proofs.Common.{sym, inl, inr, arith}
+use Rattle.std.proofs.Common.{sym, arith}
 use Rattle.orders.proofs.Places.{beyond, money_there}
 use Rattle.orders.proofs.till.Till.money.Goals as goal
 

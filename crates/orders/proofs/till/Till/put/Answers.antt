@@ -1,4 +1,4 @@
-use Rattle.std.proofs.Common.{refl, arith}
+use Rattle.std.proofs.Common.{refl}
 use Rattle.orders.proofs.Places.{puts}
 use Rattle.orders.proofs.till.Till.put.Goals as goal
 
