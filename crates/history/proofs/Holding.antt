@@ -46,12 +46,12 @@ module _ (v : View) (os : List PayOrder) (o : PayOrder) (w : View) (i : Holding 
         own = ap (λ s. all_bear s os) put.serial_is ∙ (all_but_last (till_of w).serial os o i.own).0;
         covered =
             by_place (λ p. 1 ≤ p → ordered_at (till_of u) p ≡ in_hand p os) o.place
-            (λ some. let on = i.covered o.place some in let more = in_hand_more o.place os o in let cents = cents_here o in let Now-on = put.ordered_is in omega arith)
-            (λ p ne some. let on = i.covered p some in let more = in_hand_more p os o in let cents = cents_there o p ne in let Now-on = put.others_on_orders p some ne in omega arith);
+            (λ some. let on = i.covered o.place some in let more = in_hand_more o.place os o in let cents = cents_here o in let now_on = put.ordered_is in omega arith)
+            (λ p ne some. let on = i.covered p some in let more = in_hand_more p os o in let cents = cents_there o p ne in let now_on = put.others_on_orders p some ne in omega arith);
         whole =
             by_place (λ p. 1 ≤ p → stands (till_of u) p + cent * ordered_at (till_of u) p ≡ stands (till_of v) p + cent * ordered_at (till_of v) p) o.place
-            (λ some. let before = i.whole o.place some in let on = i.covered o.place some in let more = in_hand_more o.place os o in let cents = cents_here o in let Now-on = put.ordered_is in let now-stands = put.standing_is in omega arith)
-            (λ p ne some. let before = i.whole p some in let Now-on = put.others_on_orders p some ne in let now-stands = put.others_stand p some ne in omega arith);
+            (λ some. let before = i.whole o.place some in let on = i.covered o.place some in let more = in_hand_more o.place os o in let cents = cents_here o in let now_on = put.ordered_is in let now-stands = put.standing_is in omega arith)
+            (λ p ne some. let before = i.whole p some in let now_on = put.others_on_orders p some ne in let now-stands = put.others_stand p some ne in omega arith);
         left = m.left ∙ ap (λ x. with_till x (till_of u)) i.left;
       }
 

@@ -45,9 +45,9 @@ module _ (shape : Shape) (market : Market) (row : List Meaning) (serial : ℕ) w
 
   -- a call that leaves bank and till alone
   still : (e : Event) {es : List Event} {hand : List PayOrder} {v w : View} → reading_of e ≡ None → payment_of e ≡ None → w.shape ≡ v.shape → w.market ≡ v.market → w.row ≡ v.row → till_of w ≡ till_of v → Held es hand v → Held (e ∷ es) hand w
-  still e {es} {hand} {v} {w} read paid Shape-same market-same row_same till-same i =
+  still e {es} {hand} {v} {w} read paid shape-same market-same row_same till-same i =
       record {
-        shape_is = Shape-same ∙ i.shape_is;
+        shape_is = shape-same ∙ i.shape_is;
         market_is = market-same ∙ i.market_is;
         serial_is = ap (λ (t : Till). t.serial) till-same ∙ i.serial_is;
         standing = λ p. ap (λ ms. at_place ms p) row_same ∙ i.standing p ∙ sym (ap (place_after (at_place row p)) (same_accepted p e es read));
@@ -162,9 +162,9 @@ module _ (shape : Shape) (market : Market) (row : List Meaning) (serial : ℕ) w
 
     -- the order's cents are paid, or stand again
     spent_step : (e : Event) → reading_of e ≡ None → w.shape ≡ v.shape → w.market ≡ v.market → w.row ≡ v.row → ((p : ℕ) → 1 ≤ p → cent * paid_at p (e ∷ es) + stands (till_of w) p ≡ cent * paid_at p es + stands (till_of v) p + cent * cents_at p o) → Held (e ∷ es) rest w
-    spent_step e read Shape-same market-same row_same whole =
+    spent_step e read shape-same market-same row_same whole =
         record {
-          shape_is = Shape-same ∙ i.shape_is;
+          shape_is = shape-same ∙ i.shape_is;
           market_is = market-same ∙ i.market_is;
           serial_is = m.serial_is ∙ i.serial_is;
           standing = λ p. ap (λ ms. at_place ms p) row_same ∙ i.standing p ∙ sym (ap (place_after (at_place row p)) (same_accepted p e es read));

@@ -92,8 +92,8 @@ impl Orders {
 
     // Takes out the order with the highest number, and with it the numbers from there on.
     pub fn take_last(&mut self) -> Option<PayOrder>
-        ensures self_value { in_slots (slots_of self.old) ≡ in_slots (slots_of self.new) ++ option_to_list result }
-        ensures cases { MatchOption result (slots_of self.new ≡ []) (λ _. length (slots_of self.new) < length (slots_of self.old)) }
+        ensures taken { in_slots (slots_of self.old) ≡ in_slots (slots_of self.new) ++ option_to_list result }
+        ensures shorter { MatchOption result (slots_of self.new ≡ []) (λ _. length (slots_of self.new) < length (slots_of self.old)) }
     {
         while let Some(last) = self.slots.pop() {
             if let Some(order) = last {

@@ -8,7 +8,7 @@ returns-in-Some-last c =
     let rest = vec_items c.pop.new.self in
     let items = c.in-Some.ensures.items ∙ ap (λ x. rest ++ (x ∷ [])) c.in-Some-last.is in
     let long = ap length items ∙ length-append rest (_ ∷ []) in
-    record { self_value = c.loop-last.invariant.0 ∙ ap in_slots items ∙ slots_more rest c.in-Some-last.order; cases = omega (arith, long, c.loop-last.invariant.1) }
+    record { taken = c.loop-last.invariant.0 ∙ ap in_slots items ∙ slots_more rest c.in-Some-last.order; shorter = omega (arith, long, c.loop-last.invariant.1) }
 
 pub loop-last-preserved : goal.loop-last-preserved
 loop-last-preserved c =

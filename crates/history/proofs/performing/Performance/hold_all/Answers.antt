@@ -12,18 +12,18 @@ loop-order-preserved g c =
     let v = shows g.B.Bank g.M.Methodology c.args.self.house in
     let w = shows g.B.Bank g.M.Methodology c.loop-order.house in
     let os = in_slots (slots_of c.take_last.new.self) in
-    held_one v os c.in-Some.order w (subst (λ xs. Holding v xs w) c.in-Some.ensures.self_value c.loop-order.invariant) _ c.in_default-hold.ensures
+    held_one v os c.in-Some.order w (subst (λ xs. Holding v xs w) c.in-Some.ensures.taken c.loop-order.invariant) _ c.in_default-hold.ensures
 
 pub drop-back-requires : goal.drop-back-requires
 drop-back-requires g c =
     let v = shows g.B.Bank g.M.Methodology c.args.self.house in
     let w = shows g.B.Bank g.M.Methodology c.loop-order.house in
     let os = in_slots (slots_of c.take_last.new.self) in
-    absurd (not_returned v os c.in-Some.order w (subst (λ xs. Holding v xs w) c.in-Some.ensures.self_value c.loop-order.invariant) c.in-Err.back _ c.in-Err.ensures)
+    absurd (not_returned v os c.in-Some.order w (subst (λ xs. Holding v xs w) c.in-Some.ensures.taken c.loop-order.invariant) c.in-Err.back _ c.in-Err.ensures)
 
 pub loop-order-preserved-in-Err : goal.loop-order-preserved-in-Err
 loop-order-preserved-in-Err g c =
     let v = shows g.B.Bank g.M.Methodology c.args.self.house in
     let w = shows g.B.Bank g.M.Methodology c.loop-order.house in
     let os = in_slots (slots_of c.take_last.new.self) in
-    absurd (not_returned v os c.in-Some.order w (subst (λ xs. Holding v xs w) c.in-Some.ensures.self_value c.loop-order.invariant) c.in-Err.back _ c.in-Err.ensures)
+    absurd (not_returned v os c.in-Some.order w (subst (λ xs. Holding v xs w) c.in-Some.ensures.taken c.loop-order.invariant) c.in-Err.back _ c.in-Err.ensures)
