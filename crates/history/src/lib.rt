@@ -3,13 +3,13 @@
 
 pub mod answer;
 pub mod call;
-pub mod orders;
+pub mod numbered;
 pub mod performing;
 pub mod presenting;
 pub mod stepping;
 
 pub use answer::Answer;
 pub use call::{Call, Named, Spending, Stated};
-pub use orders::Orders;
+pub use numbered::Orders;
 pub use performing::perform::perform;
 pub use performing::{Performance, Unperformed};

@@ -7,7 +7,7 @@ ghost use Rattle.history.specs.Bearing.{all_bear};
 ghost use Rattle.history.specs.declared.performing.Unperformed.TheVariants.{NoMemory};
 
 use crate::answer::Answer;
-use crate::orders::Orders;
+use crate::numbered::Orders;
 use house::House;
 use std::alloc::AllocError;
 

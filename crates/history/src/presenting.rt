@@ -6,7 +6,7 @@ ghost use Rattle.history.specs.Presenting.{Spends, Presentation};
 
 use crate::answer::Answer;
 use crate::call::Spending;
-use crate::orders::Orders;
+use crate::numbered::Orders;
 use banks::Bank;
 use house::House;
 use methodology::Methodology;

@@ -14,7 +14,7 @@ ghost use Rattle.history.specs.Steps.{Meters, Closes, Draws};
 
 use crate::answer::Answer;
 use crate::call::{Call, Named, Spending, Stated};
-use crate::orders::Orders;
+use crate::numbered::Orders;
 use crate::presenting::present;
 use accounts::Sheet;
 use banks::Bank;

@@ -9,7 +9,7 @@ ghost use Rattle.history.specs.declared.performing.Unperformed.TheVariants.{Seri
 
 use crate::answer::Answer;
 use crate::call::Call;
-use crate::orders::Orders;
+use crate::numbered::Orders;
 use crate::performing::{Performance, Unperformed};
 use crate::stepping::step;
 use banks::Bank;

@@ -4,7 +4,7 @@ ghost use Rattle.std.specs.Option.{option_to_list};
 ghost use Rattle.history.specs.Slots.{slots_of, slot, room_in, without, in_slots, Adds};
 ghost use Rattle.history.specs.Bearing.{slot_bears, any_bears};
 
-use crate::orders::Orders;
+use crate::numbered::Orders;
 use orders::PayOrder;
 use std::alloc::{AllocError, Global};
 

@@ -1,8 +1,8 @@
 use Rattle.std.proofs.Common.{◌≡◌, ◌<◌, ◌⊎◌, length, sym, refl, inl, inr, arith}
 use Rattle.history.specs.Slots.{slots_of}
 use Rattle.history.proofs.Slots.{nobody, without_none}
-use Rattle.history.proofs.orders.Orders.take.Goals as goal
-use Rattle.history.proofs.orders.Orders.take.Goals.{then-number-eq0-via-then-number-eq0, then-number-eq0-via-else-number-eq0+then-number-len}
+use Rattle.history.proofs.numbered.Orders.take.Goals as goal
+use Rattle.history.proofs.numbered.Orders.take.Goals.{then-number-eq0-via-then-number-eq0, then-number-eq0-via-else-number-eq0+then-number-len}
 
 pub returns-then-number-eq0 : goal.returns-then-number-eq0
 returns-then-number-eq0 c =

@@ -2,7 +2,7 @@ use Rattle.std.proofs.Common.{◌+◌, ◌||◌, drop, sym, ap, ◌∙◌}
 use Rattle.std.proofs.lemmas.List.{drop_all}
 use Rattle.history.specs.Bearing.{any_bears}
 use Rattle.history.proofs.Slots.{bears_from}
-use Rattle.history.proofs.orders.keeping.any_bears.Goals as goal
+use Rattle.history.proofs.numbered.keeping.any_bears.Goals as goal
 
 pub returns-then-slot_bears : goal.returns-then-slot_bears
 returns-then-slot_bears c =
