@@ -8,10 +8,9 @@ pub struct PayOrder {
     place: u8,
     cents: u64,
     ghost placed: { (1 ≤ place) × (place ≤ place_limit) },
-    ghost live: { 0 < cents },
 }
 
-// An order bears at least one cent, so nobody who holds one may drop it.
+// A draw makes no order of less than a cent, so nobody who was given one may drop it: only an order of no cents could be let go.
 impl Drop for PayOrder {
     fn drop(self)
         requires { self.cents ≡ 0 }
@@ -54,8 +53,7 @@ impl PayOrder {
 
     // What it pays.
     pub fn cents(&self) -> u64
-        ensures value { result ≡ self.now.cents }
-        ensures some { 0 < result }
+        ensures { result ≡ self.now.cents }
     {
         self.cents
     }
