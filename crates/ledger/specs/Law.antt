@@ -1,5 +1,5 @@
 -- The law over every list of calls: what the money of a house comes to.
-use Rattle.std.specs.Prelude.{◌≡◌, ℕ, ◌+◌, ◌*◌, ◌<◌, ◌≤◌, List, pos, ◌+ℤ◌, Some, None, Option}
+use Rattle.std.specs.Prelude.{◌≡◌, ℕ, ◌+◌, ◌*◌, ◌<◌, ◌≤◌, List, ℤ, pos, ◌+ℤ◌, Some, None, Option}
 use Rattle.agreements.specs.Meaning.{Meaning}
 use Rattle.banks.specs.Rows.{at_place}
 use Rattle.methodology.specs.Meaning.{Meaning as Market}
@@ -27,10 +27,18 @@ module _ (shape : Shape) (market : Market) (row : List Meaning) where
   abbrev pub head_number : ℕ
   head_number = head_count (rules_of shape market)
 
-  -- over the closed months: bills, the licensees' last fractions, the last balances and carries and the margins are the dues and the allowed revenues
+  -- over the closed months: what the licensees are billed, their last fractions, the last balances and carries, and the margins
+  abbrev pub covered : List Event → ℤ
+  covered es =
+      pos (cent * billed es) +ℤ pos (sum_to (last_fraction es) licensee_limit) +ℤ sum_toℤ (last_balance es) head_number +ℤ pos (sum_to (last_carry es) head_number) +ℤ margins es
+
+  -- and what is to be paid for: the dues and the allowed revenues
+  abbrev pub costs : List Event → ℤ
+  costs es = pos (closed_dues row es) +ℤ pos (cent * allowed shape.revenues es)
+
+  -- every grain of it is covered, and no more
   abbrev pub Account : List Event → Type 0
-  Account es =
-      pos (cent * billed es) +ℤ pos (sum_to (last_fraction es) licensee_limit) +ℤ sum_toℤ (last_balance es) head_number +ℤ pos (sum_to (last_carry es) head_number) +ℤ margins es ≡ pos (closed_dues row es) +ℤ pos (cent * allowed shape.revenues es)
+  Account es = covered es ≡ costs es
 
   -- at a place: money released, on orders in hand and standing is what the terms give for the accepted readings
   abbrev pub Settled : List Event → List PayOrder → View → ℕ → Type 0

@@ -1,0 +1,6 @@
+pub mod Adjustment
+pub mod Closing
+pub mod FirstCalls
+pub mod FirstMonth
+pub mod House
+pub mod Cases
