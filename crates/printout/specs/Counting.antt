@@ -3,9 +3,13 @@ use Rattle.std.specs.Prelude.{ℕ, ◌+◌, min}
 use Rattle.history.specs.declared.answer.Answer.{Answer}
 use Rattle.history.specs.declared.answer.Answer.TheVariants.{Accepted, Metered, Closed, Drawn, Paid, Refused, Returned, Absent}
 
--- the next number; the last that there is has itself for its next
+-- the last number of 64 bits
+abbrev pub last_number : ℕ
+last_number = 18446744073709551615
+
+-- the next number; the last one has itself for its next
 abbrev pub next : ℕ → ℕ
-next n = min (n + 1) 18446744073709551615
+next n = min (n + 1) last_number
 
 -- one order more where one was drawn, and at no other answer
 abbrev pub orders_after : ℕ → Answer → ℕ

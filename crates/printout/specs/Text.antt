@@ -2,6 +2,7 @@
 use Rattle.std.specs.Prelude.{ℕ, List, ◌++◌, codes, decimal}
 use Rattle.metering.specs.declared.refusal.Refusal.{Refusal as FileRefusal}
 use Rattle.metering.specs.Text.{refusal_text as file_refusal_text}
+use Rattle.orders.specs.Limits.{returned_number}
 use Rattle.history.specs.declared.call.Call.{Call}
 use Rattle.history.specs.declared.answer.Answer.{Answer}
 use Rattle.history.specs.declared.answer.Answer.TheVariants.{Accepted, Metered, Closed, Drawn, Paid, Refused, Returned, Absent}
@@ -18,7 +19,7 @@ answer_text orders subject (Drawn place cents) =
     codes "accepted" ++ (subject ++ (codes " order " ++ (decimal orders ++ (codes " place " ++ (decimal place ++ (codes " cents " ++ decimal cents))))))
 answer_text orders subject (Paid place cents) = codes "accepted" ++ subject
 answer_text orders subject (Refused why) = refusal_text why
-answer_text orders subject Returned = codes "refused 22"
+answer_text orders subject Returned = codes "refused " ++ decimal returned_number
 answer_text orders subject Absent = codes "absent" ++ subject
 
 -- 4 meter accepted place 1 dues 5500000

@@ -8,6 +8,9 @@ use crate::verb::Verb;
 use history::{Answer, Call};
 use std::fmt;
 
+// The number of the refusal by which an order comes back.
+const RETURNED: u8 = 22;
+
 // The line of a call that was made, or that named an order that was not there.
 #[derive(Clone, Copy)]
 pub struct Line<'a> {
@@ -43,7 +46,7 @@ impl fmt::Display for Line<'_> {
                 let refused = Refused(why);
                 write!(f, "{number} {verb} {refused}")
             }
-            Answer::Returned => write!(f, "{number} {verb} refused 22"),
+            Answer::Returned => write!(f, "{number} {verb} refused {RETURNED}"),
             Answer::Absent => write!(f, "{number} {verb} absent{subject}"),
         }
     }

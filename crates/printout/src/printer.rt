@@ -1,6 +1,7 @@
 // Numbering the lines of a list, and the orders that are drawn in it.
 ghost use Rattle.std.specs.Prelude.{◌≡◌};
 ghost use Rattle.printout.specs.Counting.{next, orders_after};
+ghost use Rattle.printout.specs.Numbering.{NumberedAsNamed};
 
 use crate::line::{FileLine, Line};
 use crate::verb::Verb;
@@ -41,6 +42,7 @@ impl Printer {
         ensures call { result.call.now ≡ call.now }
         ensures answer { result.answer.now ≡ answer.now }
         ensures counted { self.new ≡ record { lines = result.number; orders = result.orders } }
+        ensures law { NumberedAsNamed }
     {
         let number = self.next_line();
         if let Answer::Drawn(_, _) = answer {
