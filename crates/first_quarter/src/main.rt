@@ -5,13 +5,13 @@ mod calls;
 mod market;
 
 use crate::calls::{quarter, up_to_an_order};
-use crate::market::{stations, two_part};
+use crate::market::{Stations, stations, two_part};
 use agreements::TwoPart;
 use anyhow::anyhow;
 use banks::{Bank, One};
 use history::{Answer, Call, Orders, Performance, Unperformed, perform};
 use house::House;
-use methodology::{Methodology, ThreeIntervals};
+use methodology::ThreeIntervals;
 use printout::Printer;
 use sheet::{TEXT_LIMIT, write_sheet};
 use std::alloc::Global;
@@ -21,6 +21,8 @@ use std::io::Write;
 const SERIAL: u64 = 1;
 
 const OTHER_SERIAL: u64 = 2;
+
+type Quarter = House<Stations, ThreeIntervals>;
 
 type Other = Performance<One<TwoPart>, ThreeIntervals>;
 
@@ -62,16 +64,35 @@ fn print_call(
 }
 
 // Prints what stands at each place, grains.
-fn print_places<B: Bank, M: Methodology>(
-    rt: &HostRuntime,
-    house: &House<B, M>,
-    places: u8,
-) -> anyhow::Result<()> {
+fn print_places(rt: &HostRuntime, house: &Quarter, places: u8) -> anyhow::Result<()> {
     for place in 1..=places {
         let standing = house.ledger().till.money(place).standing;
         println!(rt; "place {place} standing {standing}")?;
     }
     Ok(())
+}
+
+// Performs the quarter's calls, which present an order that another house has in hand. What is in hand at the end, at
+// either house, is held there.
+fn perform_quarter(
+    heap: Global,
+    bank: Stations,
+    other: Other,
+    calls: &[Call],
+) -> Result<(Quarter, Vec<Answer>), Unperformed> {
+    let Performance {
+        house,
+        answers,
+        mut hand,
+    } = other;
+    let outcome = perform(heap, bank, ThreeIntervals, SERIAL, calls, &mut hand);
+    let other = Performance {
+        house,
+        answers,
+        hand,
+    };
+    let (_house, _answers) = other.hold_all();
+    Ok(outcome?.hold_all())
 }
 
 fn run(rt: &HostRuntime) -> anyhow::Result<()> {
@@ -85,22 +106,9 @@ fn run(rt: &HostRuntime) -> anyhow::Result<()> {
     let Ok(other) = other_house(heap, two_part()?, &other_calls) else {
         return Err(anyhow!("the other house's calls are not performed"));
     };
-    let Performance {
-        house,
-        answers,
-        mut hand,
-    } = other;
-    let outcome = perform(heap, bank, ThreeIntervals, SERIAL, &calls, &mut hand);
-    let other = Performance {
-        house,
-        answers,
-        hand,
-    };
-    let (_house, _answers) = other.hold_all();
-    let Ok(performance) = outcome else {
+    let Ok((house, answers)) = perform_quarter(heap, bank, other, &calls) else {
         return Err(anyhow!("the calls are not performed"));
     };
-    let (house, answers) = performance.hold_all();
     let mut printer = Printer::new();
     for (call, answer) in calls.iter().zip(answers.iter()) {
         print_call(rt, &mut printer, call, answer)?;

@@ -15,8 +15,12 @@ abbrev pub orders_over : ℕ → List Answer → ℕ
 orders_over orders [] = orders
 orders_over orders (a ∷ answers) = orders_over (orders_after orders a) answers
 
--- a printer that begins with a list has always counted as many orders as have a number in hand
+-- a printer that begins with a list has always counted as many orders as there are numbers in hand, of which the
+-- last is that of the order drawn last
 abbrev pub NumberedAsNamed : Type 0
 NumberedAsNamed =
-    (shape : Shape) (market : Market) (row : List Meaning) (serial : ℕ) (others : List (Option PayOrder)) (cs : List Call) (answers : List Answer) (hand : List (Option PayOrder)) (v : View)
-    → Performed shape market row serial others cs answers hand v → length answers ≤ last_number → orders_over 0 answers ≡ length hand
+    (shape : Shape) (market : Market) (row : List Meaning) (serial : ℕ) (others : List (Option PayOrder))
+    (cs : List Call) (answers : List Answer) (hand : List (Option PayOrder)) (v : View)
+    → Performed shape market row serial others cs answers hand v
+    → length answers ≤ last_number
+    → orders_over 0 answers ≡ length hand

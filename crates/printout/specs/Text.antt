@@ -16,7 +16,8 @@ answer_text orders subject Accepted = codes "accepted" ++ subject
 answer_text orders subject (Metered dues) = codes "accepted" ++ (subject ++ (codes " dues " ++ decimal dues))
 answer_text orders subject (Closed sheet) = codes "accepted" ++ subject
 answer_text orders subject (Drawn place cents) =
-    codes "accepted" ++ (subject ++ (codes " order " ++ (decimal orders ++ (codes " place " ++ (decimal place ++ (codes " cents " ++ decimal cents))))))
+    codes "accepted" ++ (subject ++ (codes " order " ++ (decimal orders
+    ++ (codes " place " ++ (decimal place ++ (codes " cents " ++ decimal cents))))))
 answer_text orders subject (Paid place cents) = codes "accepted" ++ subject
 answer_text orders subject (Refused why) = refusal_text why
 answer_text orders subject Returned = codes "refused " ++ decimal returned_number
@@ -25,7 +26,8 @@ answer_text orders subject Absent = codes "absent" ++ subject
 -- 4 meter accepted place 1 dues 5500000
 abbrev pub line_text : ℕ → ℕ → Call → Answer → List ℕ
 line_text number orders call answer =
-    decimal number ++ (codes " " ++ (word (verb_of call) ++ (codes " " ++ answer_text orders (subject_text (subject_of call)) answer)))
+    decimal number ++ (codes " " ++ (word (verb_of call)
+    ++ (codes " " ++ answer_text orders (subject_text (subject_of call)) answer)))
 
 -- 13 meter refused 3 detail 9
 abbrev pub file_text : ℕ → Verb → FileRefusal → List ℕ

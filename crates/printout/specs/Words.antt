@@ -30,7 +30,8 @@ word Draw = codes "draw"
 word Release = codes "release"
 word Hold = codes "hold"
 
--- a station's place, a licensee, an order of the house's own or of another; a year, a tariff, a closing and a draw name nothing
+-- a station's place, a licensee, an order of the house's own or of another;
+-- a year, a tariff, a closing and a draw name nothing
 abbrev pub subject_of : Call → Subject
 subject_of (call.Year given) = Market
 subject_of (call.Tariff given) = Market
