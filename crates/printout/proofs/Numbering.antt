@@ -1,5 +1,7 @@
--- A performed list's drawn orders are counted as they are numbered in hand.
-use Rattle.std.proofs.Common.{◌≡◌, ℕ, ◌+◌, ◌<◌, ◌≤◌, List, [], ◌∷◌, ◌++◌, length, Some, Ok, Err, Option, Result, sym, refl, ap, ◌∙◌, arith, length-append}
+-- The orders that a performed list drew are counted as they are numbered in hand.
+use Rattle.std.proofs.Common.{◌≡◌, ℕ, ◌+◌, ◌-◌, ◌<◌, ◌≤◌, leb, List, [], ◌∷◌, ◌++◌, length, get_or, Some, None, Ok, Err, Option, Result, sym, refl, ap, ◌∙◌, arith, length-append}
+use Rattle.std.proofs.lemmas.Bool.{cond-true, le-leb}
+use Rattle.std.proofs.Math.Seq.{get_or-append_seam}
 use Rattle.metering.specs.declared.reading.Reading.{Reading}
 use Rattle.agreements.specs.Meaning.{Meaning}
 use Rattle.methodology.specs.Meaning.{Meaning as Market}
@@ -18,6 +20,7 @@ use Rattle.history.specs.declared.call.Named.TheVariants.{Drawn as DrawnHere, Ot
 use Rattle.history.specs.declared.call.Spending.TheVariants.{Release, Hold}
 use Rattle.history.specs.declared.answer.Answer.{Answer}
 use Rattle.history.specs.declared.answer.Answer.TheVariants.{Accepted, Metered, Closed, Drawn, Paid, Refused, Returned as CameBack, Absent}
+use Rattle.history.specs.Slots.{slot}
 use Rattle.history.specs.Histories.{told, answer_to, named, hand_drawn, hand_spent, Makes, History, begun, made, lacking}
 use Rattle.history.proofs.Slots.{numbered, without_long}
 use Rattle.printout.specs.Counting.{last_number, orders_after}
@@ -133,5 +136,16 @@ module _ (shape : Shape) (market : Market) (row : List Meaning) (serial : ℕ) (
       let long = length-append answers (Absent ∷ []) in
       one_more 0 answers Absent ∙ in_hand h (omega arith)
 
+at_the_end : (hand : List (Option PayOrder)) (o : PayOrder) (n : ℕ) → n ≡ length hand + 1 → slot (hand ++ Some o ∷ []) n ≡ Some o
+at_the_end hand o n is =
+    let last : n - 1 ≡ length hand = omega arith in
+    cond-true (leb 1 n) _ _ (le-leb 1 n (omega arith))
+    ∙ ap (λ i. get_or (hand ++ Some o ∷ []) i None) last
+    ∙ get_or-append_seam hand (Some o) [] None
+
 pub numbered_as_named : NumberedAsNamed
-numbered_as_named shape market row serial others cs answers hand v y few = in_hand shape market row serial others y.history few
+numbered_as_named shape market row serial others cs answers hand v y few o =
+    let told = Drawn o.place o.cents in
+    let fit = fewer shape market row serial others y.history in
+    let same = in_hand shape market row serial others y.history (omega arith) in
+    at_the_end hand o _ (ap (λ n. orders_after n told) same ∙ counted (length hand) told (omega arith))
