@@ -17,7 +17,10 @@ const EVENING: usize = 38;
 
 // 100 kW at 20,000 grains each, and energy at 50,000.
 pub fn two_part() -> anyhow::Result<TwoPart> {
-    TwoPart::new(100, 20_000, 50_000).map_err(|_| anyhow!("no two-part agreement"))
+    let Ok(agreement) = TwoPart::new(100, 20_000, 50_000) else {
+        return Err(anyhow!("no two-part agreement"));
+    };
+    Ok(agreement)
 }
 
 // 25 kWh at 60,000 grains each and all further ones at 40,000, and half as much again on all.
