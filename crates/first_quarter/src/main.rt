@@ -1,0 +1,121 @@
+// The first quarter of a market with two stations and two licensees, performed as one list of calls and printed.
+#![tactic(auto)]
+
+mod calls;
+mod market;
+
+use crate::calls::{quarter, up_to_an_order};
+use crate::market::{Stations, stations, two_part};
+use agreements::TwoPart;
+use anyhow::anyhow;
+use banks::{Bank, One};
+use history::{Answer, Call, Orders, Performance, Unperformed, perform};
+use house::House;
+use methodology::ThreeIntervals;
+use printout::Printer;
+use sheet::{TEXT_LIMIT, write_sheet};
+use std::alloc::Global;
+use std::io::Write;
+
+// The numbers that the pay orders of the two houses bear.
+const SERIAL: u64 = 1;
+
+const OTHER_SERIAL: u64 = 2;
+
+type Quarter = House<Stations, ThreeIntervals>;
+
+type Other = Performance<One<TwoPart>, ThreeIntervals>;
+
+// Another house, with an order that it drew in hand.
+fn other_house(heap: Global, station: TwoPart, calls: &[Call]) -> Result<Other, Unperformed> {
+    let mut none = Orders::with_room(heap, 0)?;
+    let outcome = perform(
+        heap,
+        One::new(station),
+        ThreeIntervals,
+        OTHER_SERIAL,
+        calls,
+        &mut none,
+    );
+    match none.end() {
+        Ok(()) => outcome,
+        Err(_) => unreachable!(),
+    }
+}
+
+// Prints a call's line, and under an accepted closing the sheet.
+fn print_call(
+    rt: &HostRuntime,
+    printer: &mut Printer,
+    call: &Call,
+    answer: &Answer,
+) -> anyhow::Result<()> {
+    let line = printer.line(call, answer);
+    println!(rt; "{line}")?;
+    let Answer::Closed(sheet) = answer else {
+        return Ok(());
+    };
+    let mut buffer = [0; TEXT_LIMIT];
+    let Ok(size) = write_sheet(sheet, &mut buffer) else {
+        return Err(anyhow!("the text is longer than the longest"));
+    };
+    rt.stdout().write_all(&buffer[..size])?;
+    Ok(())
+}
+
+// Prints what stands at each place, grains.
+fn print_places(rt: &HostRuntime, house: &Quarter, places: u8) -> anyhow::Result<()> {
+    for place in 1..=places {
+        let standing = house.ledger().till.money(place).standing;
+        println!(rt; "place {place} standing {standing}")?;
+    }
+    Ok(())
+}
+
+// Performs the quarter's calls, which present an order that another house has in hand. What is in hand at the end, at
+// either house, is held there.
+fn perform_quarter(
+    heap: Global,
+    bank: Stations,
+    other: Other,
+    calls: &[Call],
+) -> Result<(Quarter, Vec<Answer>), Unperformed> {
+    let Performance {
+        house,
+        answers,
+        mut hand,
+    } = other;
+    let outcome = perform(heap, bank, ThreeIntervals, SERIAL, calls, &mut hand);
+    let other = Performance {
+        house,
+        answers,
+        hand,
+    };
+    let (_house, _answers) = other.hold_all();
+    Ok(outcome?.hold_all())
+}
+
+fn run(rt: &HostRuntime) -> anyhow::Result<()> {
+    let heap = rt.alloc();
+    let mut calls = Vec::new(heap);
+    quarter(&mut calls)?;
+    let mut other_calls = Vec::new(heap);
+    up_to_an_order(&mut other_calls)?;
+    let bank = stations()?;
+    let places = bank.places();
+    let Ok(other) = other_house(heap, two_part()?, &other_calls) else {
+        return Err(anyhow!("the other house's calls are not performed"));
+    };
+    let Ok((house, answers)) = perform_quarter(heap, bank, other, &calls) else {
+        return Err(anyhow!("the calls are not performed"));
+    };
+    let mut printer = Printer::new();
+    for (call, answer) in calls.iter().zip(answers.iter()) {
+        print_call(rt, &mut printer, call, answer)?;
+    }
+    print_places(rt, &house, places)
+}
+
+fn main(rt: HostRuntime) -> anyhow::Result<()> {
+    run(&rt)
+}

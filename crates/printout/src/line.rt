@@ -1,0 +1,73 @@
+// The lines.
+ghost use Rattle.std.specs.Prelude.{Some};
+ghost use Rattle.printout.specs.Text.{line_text, file_text};
+
+use crate::refused::Refused;
+use crate::subject::Subject;
+use crate::verb::Verb;
+use history::{Answer, Call};
+use std::fmt;
+
+// The number of the refusal by which an order comes back.
+const RETURNED: u8 = 22;
+
+// The line of a call that was made, or that named an order that was not there.
+#[derive(Clone, Copy)]
+pub struct Line<'a> {
+    // Of the line, counted from 1.
+    pub number: usize,
+    // How many draws were accepted up to here: the number of the order where this call drew one.
+    pub orders: usize,
+    pub call: &'a Call,
+    pub answer: &'a Answer,
+}
+
+// As `4 meter accepted place 1 dues 5500000`.
+impl fmt::Display for Line<'_> {
+    ghost output = { λ l. Some (line_text l.number l.orders l.call.now l.answer.now) };
+
+    fn fmt<W: fmt::Write>(&self, f: &mut fmt::Formatter<W>) -> fmt::Result {
+        let number = self.number;
+        let orders = self.orders;
+        let verb = Verb::of(self.call);
+        let subject = Subject::of(self.call);
+        match *self.answer {
+            Answer::Accepted => write!(f, "{number} {verb} accepted{subject}"),
+            Answer::Metered(dues) => write!(f, "{number} {verb} accepted{subject} dues {dues}"),
+            Answer::Closed(_) => write!(f, "{number} {verb} accepted{subject}"),
+            Answer::Drawn(place, cents) => {
+                write!(
+                    f,
+                    "{number} {verb} accepted{subject} order {orders} place {place} cents {cents}"
+                )
+            }
+            Answer::Paid(_, _) => write!(f, "{number} {verb} accepted{subject}"),
+            Answer::Refused(why) => {
+                let refused = Refused(why);
+                write!(f, "{number} {verb} {refused}")
+            }
+            Answer::Returned => write!(f, "{number} {verb} refused {RETURNED}"),
+            Answer::Absent => write!(f, "{number} {verb} absent{subject}"),
+        }
+    }
+}
+
+// The line of a call that was not made, since the file of its reading was refused.
+#[derive(Clone, Copy)]
+pub struct FileLine {
+    pub number: usize,
+    pub verb: Verb,
+    pub refusal: metering::Refusal,
+}
+
+// As `13 meter refused 3 detail 9`.
+impl fmt::Display for FileLine {
+    ghost output = { λ l. Some (file_text l.number l.verb l.refusal) };
+
+    fn fmt<W: fmt::Write>(&self, f: &mut fmt::Formatter<W>) -> fmt::Result {
+        let number = self.number;
+        let verb = self.verb;
+        let refusal = self.refusal;
+        write!(f, "{number} {verb} {refusal}")
+    }
+}

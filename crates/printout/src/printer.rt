@@ -1,0 +1,71 @@
+// Numbering the lines of a list, and the orders that are drawn in it.
+ghost use Rattle.std.specs.Prelude.{◌≡◌};
+ghost use Rattle.printout.specs.Counting.{next, orders_after};
+ghost use Rattle.printout.specs.Numbering.{NumberedAsNamed};
+
+use crate::line::{FileLine, Line};
+use crate::verb::Verb;
+use history::{Answer, Call};
+
+// How many lines there were, and how many of their calls drew an order.
+#[derive(Clone, Copy, PartialEq, Eq, Debug)]
+pub struct Printer {
+    lines: usize,
+    orders: usize,
+}
+
+impl Printer {
+    // Before the first line.
+    pub fn new() -> Printer
+        ensures lines { result.lines ≡ 0 }
+        ensures orders { result.orders ≡ 0 }
+    {
+        Printer {
+            lines: 0,
+            orders: 0,
+        }
+    }
+
+    // Counts a line more, and answers its number.
+    fn next_line(&mut self) -> usize
+        ensures number { result ≡ next self.old.lines }
+        ensures counted { self.new ≡ record { lines = result; orders = self.old.orders } }
+    {
+        self.lines = self.lines.saturating_add(1);
+        self.lines
+    }
+
+    // The next line: of a call and its answer.
+    pub fn line<'a>(&mut self, call: &'a Call, answer: &'a Answer) -> Line<'a>
+        ensures number { result.number ≡ next self.old.lines }
+        ensures orders { result.orders ≡ orders_after self.old.orders answer.now }
+        ensures call { result.call.now ≡ call.now }
+        ensures answer { result.answer.now ≡ answer.now }
+        ensures counted { self.new ≡ record { lines = result.number; orders = result.orders } }
+        ensures law { NumberedAsNamed }
+    {
+        let number = self.next_line();
+        if let Answer::Drawn(_, _) = answer {
+            self.orders = self.orders.saturating_add(1);
+        }
+        Line {
+            number,
+            orders: self.orders,
+            call,
+            answer,
+        }
+    }
+
+    // The next line: of a call that was not made, since the file of its reading was refused.
+    pub fn file_line(&mut self, verb: Verb, refusal: metering::Refusal) -> FileLine
+        ensures line { result ≡ record { number = next self.old.lines; verb = verb; refusal = refusal } }
+        ensures counted { self.new ≡ record { lines = next self.old.lines; orders = self.old.orders } }
+    {
+        let number = self.next_line();
+        FileLine {
+            number,
+            verb,
+            refusal,
+        }
+    }
+}
