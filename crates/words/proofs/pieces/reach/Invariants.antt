@@ -1,7 +1,7 @@
 use Rattle.std.proofs.Common.{◌≡◌, ◌+◌, not, drop}
 use Rattle.std.specs.List.{prefix_len}
-use Rattle.figures_text.specs.Words.{ends}
-use Rattle.figures_text.proofs.words.reach.Given as goal
+use Rattle.words.specs.Pieces.{ends}
+use Rattle.words.proofs.pieces.reach.Given as goal
 
 -- all bytes so far stand before the end
 abbrev pub invariant-loop-i : goal.invariant-loop-i

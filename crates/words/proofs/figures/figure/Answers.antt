@@ -5,10 +5,10 @@ use Rattle.std.proofs.lemmas.Int.Digits.{digits_value_more}
 use Rattle.std.proofs.lemmas.List.{take_all}
 use Rattle.std.proofs.lemmas.Bool.{and_right, and_from, cond-true, cond-false, lt-ltb, eqb-false}
 use Rattle.std.proofs.lemmas.Str.{digit_value_digit}
-use Rattle.figures_text.specs.Words.{all_digits}
-use Rattle.figures_text.proofs.Digits.{capped, digits_go, digits_stop, digits_end}
-use Rattle.figures_text.proofs.words.figure.Goals as goal
-use Rattle.figures_text.proofs.words.figure.Goals.{then-byte-lt48-via-then-byte-lt48, then-byte-lt48-via-else-byte-lt48+then-byte-gt57}
+use Rattle.words.specs.Figures.{all_digits}
+use Rattle.words.proofs.Digits.{capped, digits_go, digits_stop, digits_end}
+use Rattle.words.proofs.figures.figure.Goals as goal
+use Rattle.words.proofs.figures.figure.Goals.{then-byte-lt48-via-then-byte-lt48, then-byte-lt48-via-else-byte-lt48+then-byte-gt57}
 
 pub returns-then-byte-lt48 : goal.returns-then-byte-lt48
 returns-then-byte-lt48 c =

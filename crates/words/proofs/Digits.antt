@@ -3,7 +3,7 @@ use Rattle.std.proofs.Common.{◌≡◌, ℕ, ◌+◌, ◌*◌, ◌<◌, ◌≤�
 use native.Mathlib.Nat.{min-eq_left, min-eq_right}
 use Rattle.std.proofs.lemmas.List.{drop_more, drop_all}
 use Rattle.std.proofs.lemmas.Bool.{cases_lt, le-leb, lt-leb, and_from, and_left, and_right}
-use Rattle.figures_text.specs.Words.{all_digits}
+use Rattle.words.specs.Figures.{all_digits}
 
 -- a figure that is held to the largest at each digit is the whole number held to it
 pub capped : (v d top : ℕ) → min (min v top * 10 + d) top ≡ min (v * 10 + d) top

@@ -1,7 +1,7 @@
 use Rattle.std.proofs.Common.{not, sym, ap, arith}
 use Rattle.std.proofs.lemmas.List.Sums.{prefix_len-drop_yes, prefix_len-drop_no, prefix_len-drop_all}
-use Rattle.figures_text.specs.Words.{ends}
-use Rattle.figures_text.proofs.words.reach.Goals as goal
+use Rattle.words.specs.Pieces.{ends}
+use Rattle.words.proofs.pieces.reach.Goals as goal
 
 pub returns-then-is_at : goal.returns-then-is_at
 returns-then-is_at c =

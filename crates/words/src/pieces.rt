@@ -1,8 +1,8 @@
-// Lines, words and figures in a text.
+// Lines and words in a text.
 ghost use Rattle.std.specs.Prelude.{◌≡◌, ◌≤◌, not, length};
 ghost use Rattle.std.specs.List.{prefix_len};
 ghost use Rattle.std.specs.Str.{bytes_eq};
-ghost use Rattle.figures_text.specs.Words.{ends, piece, after, first_line, behind_line, bare, first_word, behind_word, figure_of};
+ghost use Rattle.words.specs.Pieces.{ends, piece, after, first_line, behind_line, bare, first_word, behind_word};
 
 // Where a piece of text ends.
 #[derive(Clone, Copy)]
@@ -79,27 +79,6 @@ pub fn next_word(line: &[u8]) -> (&[u8], &[u8])
 {
     let (_, words) = cut(line, End::Gap);
     cut(words, End::Word)
-}
-
-// The largest figure. One that is larger counts as this, which is over every limit.
-const LARGEST: u64 = 4_294_967_295;
-
-// The number that a word writes in decimal digits.
-pub fn figure(word: &[u8]) -> Option<u32>
-    ensures { result ≡ figure_of word.now }
-{
-    let mut n: u64 = 0;
-    for byte in word {
-        if *byte < b'0' || *byte > b'9' {
-            return None;
-        }
-        n = (n * 10 + u64::from(*byte - b'0')).min(LARGEST);
-    }
-    if word.is_empty() {
-        None
-    } else {
-        Some(n as u32)
-    }
 }
 
 // Whether a word is this one.

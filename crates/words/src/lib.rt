@@ -1,0 +1,8 @@
+// Lines, words and figures in the texts that people write.
+#![tactic(auto)]
+
+pub mod figures;
+pub mod pieces;
+
+pub use figures::figure;
+pub use pieces::{is_word, next_line, next_word, without_comment};
