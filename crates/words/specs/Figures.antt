@@ -13,10 +13,14 @@ all_digits (c ∷ cs) = digit c && all_digits cs
 abbrev pub is_figure : List ℕ → Bool
 is_figure w = nat_lt 0 (length w) && all_digits w
 
--- the number that a word of digits writes; one that is larger than 32 bits hold counts as the largest
-abbrev pub figure_of : List ℕ → Option ℕ
-figure_of w = cond (is_figure w) (Some (min (digits_value 10 w) 4294967295)) None
+-- the number that a figure writes, held to the top
+abbrev pub held : ℕ → List ℕ → Option ℕ
+held top w = cond (is_figure w) (Some (min (digits_value 10 w) top)) None
 
--- the number that a word of digits writes, if 64 bits hold it
+-- one that is larger than 32 bits hold counts as the largest
+abbrev pub figure_of : List ℕ → Option ℕ
+figure_of w = held 4294967295 w
+
+-- the number that a figure writes, if 64 bits hold it
 abbrev pub number_of : List ℕ → Option ℕ
 number_of w = cond (is_figure w && nat_lt (digits_value 10 w) (2 ^ 64)) (Some (digits_value 10 w)) None

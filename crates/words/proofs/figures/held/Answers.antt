@@ -7,8 +7,8 @@ use Rattle.std.proofs.lemmas.Bool.{and_right, and_from, cond-true, cond-false, l
 use Rattle.std.proofs.lemmas.Str.{digit_value_digit}
 use Rattle.words.specs.Figures.{all_digits}
 use Rattle.words.proofs.Digits.{capped, digits_go, digits_stop, digits_end}
-use Rattle.words.proofs.figures.figure.Goals as goal
-use Rattle.words.proofs.figures.figure.Goals.{then-byte-lt48-via-then-byte-lt48, then-byte-lt48-via-else-byte-lt48+then-byte-gt57}
+use Rattle.words.proofs.figures.held.Goals as goal
+use Rattle.words.proofs.figures.held.Goals.{then-byte-lt48-via-then-byte-lt48, then-byte-lt48-via-else-byte-lt48+then-byte-gt57}
 
 pub returns-then-byte-lt48 : goal.returns-then-byte-lt48
 returns-then-byte-lt48 c =
@@ -30,10 +30,10 @@ loop-byte-preserved c =
     let d : digit_value (get_or w at 0) + 48 ≡ get_or w at 0 = digit_value_digit (get_or w at 0) (c.if-byte-lt48.false, c.if-byte-gt57.false) in
     let digit : c.from.result ≡ digit_value (get_or w at 0) = omega (arith, d, c.from.ensures) in (
       c.min-n.ensures
-          ∙ ap (λ n. min (n * 10 + c.from.result) 4294967295) c.loop-byte.invariant.0
-          ∙ capped (digits_value 10 (take at w)) c.from.result 4294967295
-          ∙ ap (λ k. min (digits_value 10 (take at w) * 10 + k) 4294967295) digit
-          ∙ ap (λ n. min n 4294967295) (sym (digits_value_more 10 w at inside)),
+          ∙ ap (λ n. min (n * 10 + c.from.result) c.args.top) c.loop-byte.invariant.0
+          ∙ capped (digits_value 10 (take at w)) c.from.result c.args.top
+          ∙ ap (λ k. min (digits_value 10 (take at w) * 10 + k) c.args.top) digit
+          ∙ ap (λ n. min n c.args.top) (sym (digits_value_more 10 w at inside)),
       sym (digits_go w at inside c.if-byte-lt48.false c.if-byte-gt57.false) ∙ c.loop-byte.invariant.1,
     )
 
@@ -44,5 +44,5 @@ returns-else-is_empty c =
     let some : length w ≡ 0 → ⊥ = eqb-false (length w) 0 (sym c.if-is_empty.ensures) in
     let all : all_digits w ≡ true = sym c.loop-byte.invariant.1 ∙ digits_end w at (omega arith) in
     let whole : take at w ≡ w = take_all at w (omega arith) in
-    ap Some (c.loop-byte.invariant.0 ∙ ap (λ l. min (digits_value 10 l) 4294967295) whole)
+    ap Some (c.loop-byte.invariant.0 ∙ ap (λ l. min (digits_value 10 l) c.args.top) whole)
     ∙ sym (cond-true _ _ _ (and_from (ltb 0 (length w)) (all_digits w) (lt-ltb 0 (length w) (omega arith)) all))
