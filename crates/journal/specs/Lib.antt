@@ -1,0 +1,5 @@
+pub mod Names
+pub mod Chain
+pub mod Fields
+pub mod Headings
+pub mod Calls

@@ -1,0 +1,13 @@
+// The text of an operator's journal.
+#![tactic(auto)]
+
+pub mod call;
+pub mod expected;
+pub mod field;
+pub mod market;
+pub mod name;
+
+pub use call::Request;
+pub use expected::Expected;
+pub use market::Market;
+pub use name::Name;
