@@ -1,2 +1,4 @@
 pub mod Rows
 pub mod Runs
+pub mod Layers
+pub mod Taken

@@ -3,3 +3,4 @@ pub mod Chain
 pub mod Fields
 pub mod Headings
 pub mod Calls
+pub mod Places

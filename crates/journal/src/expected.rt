@@ -1,5 +1,8 @@
 // What a line that cannot be read should have said.
+ghost use Rattle.std.specs.Prelude.{◌≡◌};
+
 use crate::name::Name;
+use std::alloc::AllocFailed;
 
 #[derive(Clone, Copy)]
 pub enum Expected {
@@ -34,4 +37,31 @@ pub enum Expected {
     QuotaLimits,
     // No further station: every place is taken.
     NoStation,
+}
+
+// Why a line is not read.
+#[derive(Clone, Copy)]
+pub enum Unreadable {
+    Lacks(Expected),
+    NoMemory,
+}
+
+impl From<Expected> for Unreadable {
+    ghost use Rattle.journal.specs.declared.expected.Unreadable.TheVariants.{Lacks};
+
+    ghost from_gives = { λ expected u. u ≡ Lacks expected };
+
+    fn from(expected: Expected) -> Unreadable {
+        Unreadable::Lacks(expected)
+    }
+}
+
+impl<T: Drop> From<AllocFailed<T>> for Unreadable {
+    ghost use Rattle.journal.specs.declared.expected.Unreadable.TheVariants.{NoMemory};
+
+    ghost from_gives = { λ _ u. u ≡ NoMemory };
+
+    fn from(_: AllocFailed<T>) -> Unreadable {
+        Unreadable::NoMemory
+    }
 }

@@ -6,6 +6,7 @@ pub mod expected;
 pub mod field;
 pub mod market;
 pub mod name;
+pub mod station;
 
 pub use call::Request;
 pub use expected::Expected;
