@@ -4,3 +4,4 @@ pub mod Fields
 pub mod Headings
 pub mod Calls
 pub mod Places
+pub mod Lines

@@ -2,6 +2,7 @@
 #![tactic(auto)]
 
 pub mod call;
+pub mod draft;
 pub mod expected;
 pub mod field;
 pub mod market;
@@ -9,6 +10,7 @@ pub mod name;
 pub mod station;
 
 pub use call::Request;
+pub use draft::Entry;
 pub use expected::Expected;
 pub use market::Market;
 pub use name::Name;
