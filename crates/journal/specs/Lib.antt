@@ -5,3 +5,5 @@ pub mod Headings
 pub mod Calls
 pub mod Places
 pub mod Lines
+pub mod Messages
+pub mod Text

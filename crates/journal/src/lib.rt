@@ -4,13 +4,17 @@
 pub mod call;
 pub mod draft;
 pub mod expected;
+pub mod fault;
 pub mod field;
 pub mod market;
 pub mod name;
+pub mod parse;
 pub mod station;
 
 pub use call::Request;
 pub use draft::Entry;
 pub use expected::Expected;
+pub use fault::{Fault, Unread};
 pub use market::Market;
 pub use name::Name;
+pub use parse::{Journal, parse_journal};
