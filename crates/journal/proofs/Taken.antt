@@ -56,10 +56,10 @@ unfolding figures
 figures_take name ws row rest h =
     let p = both (run name [] ws) _ _ h in
     let q = held (eqb (length p.0.0) 1) (Count name 1 (length p.0.0)) _ _ p.2 in
-    let e : (row_of p.0.0, p.0.1) ≡ (row, rest) = same {A = Row × Words} (row_of p.0.0, p.0.1) (row, rest) q.1 in
     let t = run_takes name [] ws p.0.0 p.0.1 p.1 in
     let few : length p.0.0 ≡ 1 = eqb-true (length p.0.0) 1 q.0 in
     let o = one t.0 p.0.1 (omega (arith, t.2, few)) in
+    let e : (row_of p.0.0, p.0.1) ≡ (row, rest) = same {A = Row × Words} (row_of p.0.0, p.0.1) (row, rest) q.1 in
     (o.0, t.1 ∙ o.1 ∙ ap (λ x. o.0 ∷ x.1) e)
 
 named_takes : (name : Name) (ws rest : Words) → named name ws ≡ Ok rest → (w : List ℕ) × (ws ≡ w ∷ rest)

@@ -2,14 +2,16 @@
 #![tactic(auto)]
 
 pub mod call;
-pub mod draft;
+mod draft;
 pub mod expected;
 pub mod fault;
-pub mod field;
+mod field;
 pub mod market;
 pub mod name;
 pub mod parse;
-pub mod station;
+mod station;
+#[cfg(test)]
+mod tests;
 
 pub use call::Request;
 pub use draft::Entry;
