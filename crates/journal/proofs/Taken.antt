@@ -19,6 +19,9 @@ either false = inr refl
 same : {A : Type 0} (x y : A) → ◌≡◌ {A = Result A Expected} (Ok x) (Ok y) → x ≡ y
 same x y h = cc
 
+same_rest : {A : Type 0} (x y : A) (a b : Words) → ◌≡◌ {A = Result (A × Words) Expected} (Ok (x, a)) (Ok (y, b)) → a ≡ b
+same_rest x y a b h = ap (λ p. p.1) (same (x, a) (y, b) h)
+
 -- both steps of what was read were
 both : {A B : Type 0} (said : Result A Expected) (more : A → Result B Expected) (y : B) → said >>= more ≡ Ok y → (x : A) × (said ≡ Ok x) × (more x ≡ Ok y)
 both (Ok x) more y h = (x, refl, h)
@@ -59,8 +62,8 @@ figures_take name ws row rest h =
     let t = run_takes name [] ws p.0.0 p.0.1 p.1 in
     let few : length p.0.0 ≡ 1 = eqb-true (length p.0.0) 1 q.0 in
     let o = one t.0 p.0.1 (omega (arith, t.2, few)) in
-    let e : (row_of p.0.0, p.0.1) ≡ (row, rest) = same {A = Row × Words} (row_of p.0.0, p.0.1) (row, rest) q.1 in
-    (o.0, t.1 ∙ o.1 ∙ ap (λ x. o.0 ∷ x.1) e)
+    let e : p.0.1 ≡ rest = same_rest (row_of p.0.0) row p.0.1 rest q.1 in
+    (o.0, t.1 ∙ o.1 ∙ ap (λ l. o.0 ∷ l) e)
 
 named_takes : (name : Name) (ws rest : Words) → named name ws ≡ Ok rest → (w : List ℕ) × (ws ≡ w ∷ rest)
 unfolding named
@@ -74,8 +77,8 @@ pub single_takes : (name : Name) (ws : Words) (n : ℕ) (rest : Words) → singl
 unfolding single field
 single_takes name ws n rest h =
     let p = both (field name 1 ws) _ _ h in
-    let e : (slice_index p.0.0.figures 0, p.0.1) ≡ (n, rest) = same {A = ℕ × Words} (slice_index p.0.0.figures 0, p.0.1) (n, rest) p.2 in
+    let e : p.0.1 ≡ rest = same_rest (slice_index p.0.0.figures 0) n p.0.1 rest p.2 in
     let m = both (named name ws) (figures name 1) p.0 p.1 in
     let w = named_takes name ws m.0 m.1 in
     let v = figures_take name m.0 p.0.0 p.0.1 m.2 in
-    (w.0, v.0, w.1 ∙ ap (λ l. w.0 ∷ l) (v.1 ∙ ap (λ x. v.0 ∷ x.1) e))
+    (w.0, v.0, w.1 ∙ ap (λ l. w.0 ∷ l) (v.1 ∙ ap (λ l. v.0 ∷ l) e))
