@@ -1,5 +1,4 @@
 pub mod Messages
-pub mod Words
 pub mod Lines
 pub mod Text
 pub mod Plain

@@ -4,7 +4,6 @@
 mod draft;
 pub mod fault;
 pub mod parse;
-mod words;
 
 pub use fault::{Expected, TextFault};
 pub use parse::parse_figures;

@@ -1,0 +1,121 @@
+-- The lines of a journal that say what the house is asked to do.
+use Rattle.std.specs.Prelude.{◌≡◌, ℕ, ◌+◌, List, [], ◌∷◌, Ok, Err, Result, codes, slice_index, nat_le, if◌then◌else◌}
+use Rattle.std.specs.Str.{bytes_eq}
+use Rattle.std.specs.Borrow.{Bor}
+use Rattle.tariffs.specs.declared.row.Row.{Row}
+use Rattle.tariffs.specs.declared.filing.Filing.{Filing}
+use Rattle.journal.specs.declared.call.Request.{Request}
+use Rattle.journal.specs.declared.call.Request.TheVariants.{Year as IsYear, Tariff, Meter, Deliver, Close as IsClose, Draw as IsDraw, Release as IsRelease, Hold as IsHold}
+use Rattle.journal.specs.declared.market.Market.{Market}
+use Rattle.journal.specs.declared.name.Name.TheVariants.{Year, Costs, Peaks, Energy, Sent, Delivered, Losses, Coefficients, Interest, Close, Draw, Release, Hold}
+use Rattle.journal.specs.declared.expected.Expected.{Expected}
+use Rattle.journal.specs.declared.expected.Expected.TheVariants.{FileName, Most}
+use Rattle.journal.specs.Chain.{◌>>=◌, must}
+use Rattle.journal.specs.Fields.{Words, field, single, ended}
+use Rattle.journal.specs.Headings.{revenues_of, intervals_of}
+
+-- what the house is asked to do
+pub data Call : Type 0 where
+  file_year : Row → Call
+  publish : Filing → Call
+  meter_file : List ℕ → Call
+  delivery_file : List ℕ → Call
+  close_month : (readings deliveries : ℕ) → Call
+  draw_at : ℕ → Call
+  release_order : ℕ → Call
+  hold_order : ℕ → Call
+
+-- a request says it
+abbrev pub call : Request → Call
+call (IsYear revenues) = file_year revenues
+call (Tariff filing) = publish filing
+call (Meter name) = meter_file name.now
+call (Deliver name) = delivery_file name.now
+call (IsClose readings deliveries) = close_month readings deliveries
+call (IsDraw place) = draw_at place
+call (IsRelease order) = release_order order
+call (IsHold order) = hold_order order
+
+abbrev pub Tells : Result Call Expected → Result Request Expected → Type 0
+Tells said (Ok r) = said ≡ Ok (call r)
+Tells said (Err e) = said ≡ Err e
+
+-- the name of a meter file
+abbrev pub file_of : Words → Result (List ℕ × Words) Expected
+file_of [] = Err FileName
+file_of (w ∷ ws) = Ok (w, ws)
+
+abbrev pub TakesName : Result (List ℕ × Words) Expected → Result (Bor (List ℕ)) Expected → Words → Type 0
+TakesName said (Ok name) rest = said ≡ Ok (name.now, rest)
+TakesName said (Err e) rest = said ≡ Err e
+
+-- a line that says this and no more
+abbrev pub whole : {A : Type 0} → (A → Call) → Result (A × Words) Expected → Result Call Expected
+whole make said = said >>= λ (x, ws). ended ws >>= λ _. Ok (make x)
+
+-- what a tariff files, for a market's revenues and intervals
+unfoldable pub filing_of : Market → Words → Result (Filing × Words) Expected
+filing_of market ws =
+    field Costs (1 + revenues_of market) ws
+    >>= λ (costs, ws). single Peaks ws
+    >>= λ (peaks, ws). single Energy ws
+    >>= λ (energy_cost, ws). single Sent ws
+    >>= λ (sent, ws). field Delivered (intervals_of market) ws
+    >>= λ (delivered, ws). field Losses (intervals_of market) ws
+    >>= λ (factors, ws). field Coefficients (intervals_of market) ws
+    >>= λ (coefficients, ws). single Interest ws
+    >>= λ (interest, ws). Ok (
+      record {
+        costs = costs;
+        peaks = peaks;
+        energy_cost = energy_cost;
+        sent = sent;
+        delivered = delivered;
+        factors = factors;
+        coefficients = coefficients;
+        interest = interest;
+      },
+      ws,
+    )
+
+unfoldable pub year_of : Market → Words → Result Call Expected
+year_of market ws = whole file_year (field Year (revenues_of market) ws)
+
+unfoldable pub tariff_of : Market → Words → Result Call Expected
+tariff_of market ws = whole publish (filing_of market ws)
+
+unfoldable pub meter_of : Words → Result Call Expected
+meter_of ws = whole meter_file (file_of ws)
+
+unfoldable pub deliver_of : Words → Result Call Expected
+deliver_of ws = whole delivery_file (file_of ws)
+
+unfoldable pub close_of : Words → Result Call Expected
+close_of ws = whole (λ counts. close_month (slice_index counts.figures 0) (slice_index counts.figures 1)) (field Close 2 ws)
+
+-- a place is of 8 bits
+abbrev pub place_of : ℕ → Result Call Expected
+place_of n = must (nat_le n 255) (Most Draw 255) (Ok (draw_at n))
+
+unfoldable pub draw_of : Words → Result Call Expected
+draw_of ws = single Draw ws >>= λ (n, ws). ended ws >>= λ _. place_of n
+
+unfoldable pub release_of : Words → Result Call Expected
+release_of ws = whole release_order (single Release ws)
+
+unfoldable pub hold_of : Words → Result Call Expected
+hold_of ws = whole hold_order (single Hold ws)
+
+-- a call by its first word; where it begins as none does, the other was expected
+unfoldable pub request_of : Market → Expected → Words → Result Call Expected
+request_of market other [] = Err other
+request_of market other (w ∷ ws) =
+    if bytes_eq w (codes "year") then year_of market (w ∷ ws)
+    else (if bytes_eq w (codes "tariff") then tariff_of market ws
+    else (if bytes_eq w (codes "meter") then meter_of ws
+    else (if bytes_eq w (codes "deliver") then deliver_of ws
+    else (if bytes_eq w (codes "close") then close_of (w ∷ ws)
+    else (if bytes_eq w (codes "draw") then draw_of (w ∷ ws)
+    else (if bytes_eq w (codes "release") then release_of (w ∷ ws)
+    else (if bytes_eq w (codes "hold") then hold_of (w ∷ ws)
+    else Err other)))))))

@@ -1,0 +1,62 @@
+-- A station's line: the figures of its agreement, and the index layers above it from the bottom up.
+use Rattle.std.specs.Prelude.{◌≡◌, ℕ, List, [], ◌∷◌, ◌++◌, Ok, Err, Result, codes, if◌then◌else◌}
+use Rattle.std.specs.Str.{bytes_eq}
+use Rattle.agreements.specs.Meaning.{Meaning}
+use Rattle.stations.specs.declared.figures.Figures.{Figures}
+use Rattle.stations.specs.declared.figures.Figures.TheVariants.{TwoPart, Quota}
+use Rattle.stations.specs.Figures.{figured, figures_fit}
+use Rattle.stations.specs.Layers.{layered}
+use Rattle.journal.specs.declared.name.Name.TheVariants.{Contracted, Capacity, Energy, Kwh, First, Second, Index}
+use Rattle.journal.specs.declared.expected.Expected.{Expected}
+use Rattle.journal.specs.declared.expected.Expected.TheVariants.{Agreement, TwoPartLimits, QuotaLimits}
+use Rattle.journal.specs.declared.expected.Unreadable.{Unreadable}
+use Rattle.journal.specs.declared.expected.Unreadable.TheVariants.{Lacks, NoMemory}
+use Rattle.journal.specs.Chain.{◌>>=◌, must}
+use Rattle.journal.specs.Fields.{Words, single}
+
+-- a reading gives what the words say, by what its value means; want of memory promises nothing
+abbrev pub Gives : {A B : Type 0} → (B → A) → Result A Expected → Result B Unreadable → Type 0
+Gives meaning said (Ok x) = said ≡ Ok (meaning x)
+Gives meaning said (Err (Lacks e)) = said ≡ Err e
+Gives meaning said (Err NoMemory) = Unit {0}
+
+-- `contracted 100 capacity 20000 energy 50000`
+unfoldable pub two_part_of : Words → Result (Figures × Words) Expected
+two_part_of ws =
+    single Contracted ws
+    >>= λ (contracted, ws). single Capacity ws
+    >>= λ (capacity, ws). single Energy ws
+    >>= λ (energy, ws). Ok (TwoPart contracted capacity energy, ws)
+
+-- `kwh 25 first 60000 second 40000`
+unfoldable pub quota_of : Words → Result (Figures × Words) Expected
+quota_of ws =
+    single Kwh ws
+    >>= λ (kwh, ws). single First ws
+    >>= λ (first, ws). single Second ws
+    >>= λ (second, ws). Ok (Quota kwh first second, ws)
+
+unfoldable pub figures_of : Words → Result (Figures × Words) Expected
+figures_of [] = Err Agreement
+figures_of (w ∷ ws) =
+    if bytes_eq w (codes "two-part") then two_part_of ws
+    else (if bytes_eq w (codes "quota") then quota_of ws
+    else Err Agreement)
+
+-- the layers above those so far, `index 1050000` and so on to the end of the line; one word alone is no layer
+unfoldable pub layers : List ℕ → Words → Result (List ℕ) Expected
+layers below [] = Ok below
+layers below (w ∷ []) = single Index (w ∷ []) >>= λ _. Ok below
+layers below (w ∷ v ∷ ws) = single Index (w ∷ v ∷ ws) >>= λ (factor, _). layers (below ++ (factor ∷ [])) ws
+
+-- what was expected where an agreement is over its limits
+abbrev pub limits : Figures → Expected
+limits (TwoPart contracted capacity energy) = TwoPartLimits
+limits (Quota left first second) = QuotaLimits
+
+-- what a station means whose line goes on with these words
+unfoldable pub station_of : Words → Result Meaning Expected
+station_of ws =
+    figures_of ws
+    >>= λ (figures, ws). layers [] ws
+    >>= λ factors. must (figures_fit figures) (limits figures) (Ok (layered factors (figured figures)))

@@ -1,0 +1,87 @@
+// The market's line: which of the two markets, and the house's serial.
+ghost use Rattle.std.specs.Prelude.{◌≡◌};
+ghost use Rattle.words.specs.Pieces.{left};
+ghost use Rattle.journal.specs.Fields.{Takes, Passes};
+ghost use Rattle.journal.specs.Headings.{revenues_of, intervals_of, begun, market_of, heading_of};
+
+use crate::expected::Expected;
+use crate::field::{ended, single};
+use crate::name::Name;
+use methodology::{Methodology, ThreeIntervals, TwoIntervals};
+use words::{Words, is_word};
+
+#[derive(Clone, Copy)]
+pub enum Market {
+    Three,
+    Two,
+}
+
+impl Market {
+    // How many allowed revenues a year files.
+    pub fn revenues(self) -> usize
+        ensures { result ≡ revenues_of self }
+    {
+        match self {
+            Market::Three => ThreeIntervals::REVENUES,
+            Market::Two => TwoIntervals::REVENUES,
+        }
+    }
+
+    // How many intervals a day has.
+    pub fn intervals(self) -> usize
+        ensures { result ≡ intervals_of self }
+    {
+        match self {
+            Market::Three => ThreeIntervals::INTERVALS,
+            Market::Two => TwoIntervals::INTERVALS,
+        }
+    }
+}
+
+#[derive(Clone, Copy)]
+pub struct Heading {
+    pub market: Market,
+    pub serial: u64,
+}
+
+// Takes the word that begins the line.
+fn begun(words: &mut Words) -> Result<(), Expected>
+    ensures { Passes (begun (left words.old)) result (left words.new) }
+{
+    let Some(word) = words.next() else {
+        return Err(Expected::MarketLine);
+    };
+    if is_word(word, b"market") {
+        Ok(())
+    } else {
+        Err(Expected::MarketLine)
+    }
+}
+
+// Takes the word that says which market it is.
+fn which(words: &mut Words) -> Result<Market, Expected>
+    ensures { Takes (market_of (left words.old)) result (left words.new) }
+{
+    let Some(word) = words.next() else {
+        return Err(Expected::MarketLine);
+    };
+    if is_word(word, b"three") {
+        Ok(Market::Three)
+    } else if is_word(word, b"two") {
+        Ok(Market::Two)
+    } else {
+        Err(Expected::MarketLine)
+    }
+}
+
+// Reads the market's line.
+#[tactic(auto, unfolding(crate::specs::Headings::heading_of))]
+pub fn read_heading(mut words: Words) -> Result<Heading, Expected>
+    ensures { result ≡ heading_of (left words.entry) }
+{
+    begun(&mut words)?;
+    let market = which(&mut words)?;
+    let serial = single(&mut words, Name::Serial)?;
+    ended(words)?;
+    Ok(Heading { market, serial })
+}

@@ -1,0 +1,76 @@
+// The names of the fields of a journal's lines.
+ghost use Rattle.std.specs.Prelude.{◌≡◌, Some};
+ghost use Rattle.std.specs.Str.{bytes_eq};
+ghost use Rattle.journal.specs.Names.{name_text};
+
+use std::fmt;
+use words::is_word;
+
+#[derive(Clone, Copy)]
+pub enum Name {
+    Serial,
+    Contracted,
+    Capacity,
+    Energy,
+    Kwh,
+    First,
+    Second,
+    Index,
+    Year,
+    Costs,
+    Peaks,
+    Sent,
+    Delivered,
+    Losses,
+    Coefficients,
+    Interest,
+    Close,
+    Draw,
+    Release,
+    Hold,
+}
+
+impl Name {
+    // The word itself.
+    pub fn text(self) -> &'static str
+        ensures { result.now ≡ name_text self }
+    {
+        match self {
+            Name::Serial => "serial",
+            Name::Contracted => "contracted",
+            Name::Capacity => "capacity",
+            Name::Energy => "energy",
+            Name::Kwh => "kwh",
+            Name::First => "first",
+            Name::Second => "second",
+            Name::Index => "index",
+            Name::Year => "year",
+            Name::Costs => "costs",
+            Name::Peaks => "peaks",
+            Name::Sent => "sent",
+            Name::Delivered => "delivered",
+            Name::Losses => "losses",
+            Name::Coefficients => "coefficients",
+            Name::Interest => "interest",
+            Name::Close => "close",
+            Name::Draw => "draw",
+            Name::Release => "release",
+            Name::Hold => "hold",
+        }
+    }
+
+    // Whether a word is this one.
+    pub fn is(self, word: &[u8]) -> bool
+        ensures { result ≡ bytes_eq word.now (name_text self) }
+    {
+        is_word(word, self.text().as_bytes())
+    }
+}
+
+impl fmt::Display for Name {
+    ghost output = { λ n. Some (name_text n) };
+
+    fn fmt<W: fmt::Write>(&self, f: &mut fmt::Formatter<W>) -> fmt::Result {
+        f.write_str(self.text())
+    }
+}

@@ -1,0 +1,95 @@
+// A station's line: the figures of its agreement, and the index layers above it from the bottom up.
+ghost use Rattle.std.specs.Prelude.{◌≡◌, []};
+ghost use Rattle.stations.specs.Layers.{station_meaning};
+ghost use Rattle.words.specs.Pieces.{left};
+ghost use Rattle.journal.specs.Fields.{Takes};
+ghost use Rattle.journal.specs.Places.{Gives, two_part_of, quota_of, figures_of, layers, limits, station_of};
+
+use crate::expected::{Expected, Unreadable};
+use crate::field::single;
+use crate::name::Name;
+use stations::{Figures, Station};
+use std::alloc::Global;
+use words::{Words, is_word};
+
+#[tactic(auto, unfolding(crate::specs::Places::two_part_of))]
+fn two_part(words: &mut Words) -> Result<Figures, Expected>
+    ensures { Takes (two_part_of (left words.old)) result (left words.new) }
+{
+    let contracted = single(words, Name::Contracted)?;
+    let capacity = single(words, Name::Capacity)?;
+    let energy = single(words, Name::Energy)?;
+    Ok(Figures::TwoPart {
+        contracted,
+        capacity,
+        energy,
+    })
+}
+
+#[tactic(auto, unfolding(crate::specs::Places::quota_of))]
+fn quota(words: &mut Words) -> Result<Figures, Expected>
+    ensures { Takes (quota_of (left words.old)) result (left words.new) }
+{
+    let quota = single(words, Name::Kwh)?;
+    let first = single(words, Name::First)?;
+    let second = single(words, Name::Second)?;
+    Ok(Figures::Quota {
+        quota,
+        first,
+        second,
+    })
+}
+
+// Takes the kind of the agreement and its figures.
+#[tactic(auto, unfolding(crate::specs::Places::figures_of))]
+fn filed(words: &mut Words) -> Result<Figures, Expected>
+    ensures { Takes (figures_of (left words.old)) result (left words.new) }
+{
+    let Some(kind) = words.next() else {
+        return Err(Expected::Agreement);
+    };
+    if is_word(kind, b"two-part") {
+        two_part(words)
+    } else if is_word(kind, b"quota") {
+        quota(words)
+    } else {
+        Err(Expected::Agreement)
+    }
+}
+
+// The factors of the layers, the lowest first, to the end of the line.
+fn layers(heap: Global, mut words: Words) -> Result<Vec<u64>, Unreadable>
+    ensures { Gives (λ v. v.items) (layers [] (left words.entry)) result }
+{
+    let mut factors = Vec::new(heap);
+    let mut ahead = words;
+    while let Some(_) = ahead.next() {
+        let factor = single(&mut words, Name::Index)?;
+        factors.push(factor)?;
+        ahead = words;
+    }
+    Ok(factors)
+}
+
+// What was expected where an agreement is over its limits.
+fn limits(figures: Figures) -> Expected
+    ensures { result ≡ limits figures }
+{
+    match figures {
+        Figures::TwoPart { .. } => Expected::TwoPartLimits,
+        Figures::Quota { .. } => Expected::QuotaLimits,
+    }
+}
+
+// Reads what stands behind the word that begins a station's line.
+#[tactic(auto, unfolding(crate::specs::Places::station_of))]
+pub fn read_station(heap: Global, mut words: Words) -> Result<Station, Unreadable>
+    ensures { Gives station_meaning (station_of (left words.entry)) result }
+{
+    let figures = filed(&mut words)?;
+    let factors = layers(heap, words)?;
+    match Station::new(figures, factors) {
+        Ok(station) => Ok(station),
+        Err(_) => Err(Unreadable::Lacks(limits(figures))),
+    }
+}

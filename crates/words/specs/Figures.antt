@@ -1,0 +1,26 @@
+-- Figures: words of decimal digits.
+use Rattle.std.specs.Prelude.{ℕ, ◌^◌, min, Bool, true, cond, ◌&&◌, List, [], ◌∷◌, length, Some, None, Option, nat_le, nat_lt}
+use Rattle.std.specs.Str.Parse.{digits_value}
+
+abbrev pub digit : ℕ → Bool
+digit c = nat_le 48 c && nat_le c 57
+
+abbrev pub all_digits : List ℕ → Bool
+all_digits [] = true
+all_digits (c ∷ cs) = digit c && all_digits cs
+
+-- a word of digits, one at least
+abbrev pub is_figure : List ℕ → Bool
+is_figure w = nat_lt 0 (length w) && all_digits w
+
+-- the number that a figure writes, held to the top
+abbrev pub held : ℕ → List ℕ → Option ℕ
+held top w = cond (is_figure w) (Some (min (digits_value 10 w) top)) None
+
+-- one that is larger than 32 bits hold counts as the largest
+abbrev pub figure_of : List ℕ → Option ℕ
+figure_of w = held 4294967295 w
+
+-- the number that a figure writes, if 64 bits hold it
+abbrev pub number_of : List ℕ → Option ℕ
+number_of w = cond (is_figure w && nat_lt (digits_value 10 w) (2 ^ 64)) (Some (digits_value 10 w)) None
