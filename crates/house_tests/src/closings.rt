@@ -3,8 +3,8 @@ ghost use Rattle.std.specs.Prelude.{◌≤◌};
 ghost use Rattle.agreements.specs.Limits.{energy_price_limit};
 
 use crate::market::{
-    accepted_at, agreement, answers_of, answers_to, close, filing, reading, reading_of, refusal_at,
-    sent, sheet_at, tariff, year,
+    agreement, answers_of, answers_to, close, filing, reading, reading_of, refusal_at, sent,
+    sheet_at, tariff, year,
 };
 use agreements::TwoPart;
 use banks::{Beside, Listed, One};
@@ -52,7 +52,7 @@ fn no_more_is_delivered_than_was_sent(rt: HostRuntime) -> Result<(), Fail> {
     let answers = answers_of(rt.alloc(), bank, ThreeIntervals, &calls)?;
     assert_eq!(rt; refusal_at(&answers, 4), Some(Refusal::Supply(4)));
     assert_eq!(rt; refusal_at(&answers, 6), Some(Refusal::Supply(5)));
-    assert!(rt; accepted_at(&answers, 8), "closed");
+    assert!(rt; sheet_at(&answers, 8).is_some(), "closed");
     Ok(())
 }
 
@@ -70,7 +70,7 @@ fn twice_what_was_delivered_may_be_sent(rt: HostRuntime) -> Result<(), Fail> {
     ];
     let answers = answers_to(rt.alloc(), &calls)?;
     assert_eq!(rt; refusal_at(&answers, 4), Some(Refusal::Supply(4)));
-    assert!(rt; accepted_at(&answers, 6), "closed");
+    assert!(rt; sheet_at(&answers, 6).is_some(), "closed");
     Ok(())
 }
 

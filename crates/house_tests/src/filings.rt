@@ -1,6 +1,6 @@
 // Tariffs that are turned down for a figure that is out of its range, or for a rate that is.
-use crate::market::{accepted_at, answers_to, filing, refusal_at, tariff, year};
-use history::Call;
+use crate::market::{answers_to, filing, refusal_at, tariff, year};
+use history::{Answer, Call};
 use ledger::Refusal;
 use std::test::Fail;
 use tariffs::{Filing, Row};
@@ -116,7 +116,10 @@ fn counts_fit_the_heads_and_figures_keep_their_ranges(rt: HostRuntime) -> Result
             "at {place}"
         );
     }
-    assert!(rt; accepted_at(&answers, 17), "every figure at its limit");
+    assert!(rt;
+        matches!(answers.get(17), Some(Answer::Accepted)),
+        "published"
+    );
     Ok(())
 }
 
@@ -210,7 +213,10 @@ fn the_first_head_whose_rate_is_out_of_range_is_named(rt: HostRuntime) -> Result
             "at {place}"
         );
     }
-    assert!(rt; accepted_at(&answers, 9), "the tariff as it should be");
+    assert!(rt;
+        matches!(answers.get(9), Some(Answer::Accepted)),
+        "published"
+    );
     Ok(())
 }
 
@@ -228,7 +234,10 @@ fn a_rate_at_its_limit_is_published(rt: HostRuntime) -> Result<(), Fail> {
     };
     let calls = [year(), Call::Tariff(greatest), tariff()];
     let answers = answers_to(rt.alloc(), &calls)?;
-    assert!(rt; accepted_at(&answers, 1), "published");
+    assert!(rt;
+        matches!(answers.get(1), Some(Answer::Accepted)),
+        "published"
+    );
     assert_eq!(rt; refusal_at(&answers, 2), Some(Refusal::NotNow));
     Ok(())
 }

@@ -15,5 +15,3 @@ mod market;
 mod money;
 #[cfg(test)]
 mod refusals;
-#[cfg(test)]
-mod years;

@@ -118,14 +118,3 @@ pub fn sheet_at(answers: &[Answer], place: usize) -> Option<Sheet> {
         _ => None,
     }
 }
-
-// Whether the call with this place in the list was made and not refused.
-pub fn accepted_at(answers: &[Answer], place: usize) -> bool {
-    match answers.get(place) {
-        Some(Answer::Refused(_)) => false,
-        Some(Answer::Returned) => false,
-        Some(Answer::Absent) => false,
-        None => false,
-        _ => true,
-    }
-}
