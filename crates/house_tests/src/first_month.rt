@@ -1,16 +1,7 @@
 // The first month: metered, delivered, closed and paid.
-use crate::market::{answers_to, sent, taken, tariff, year};
-use accounts::Sheet;
-use history::{Answer, Call, Named, Spending, Stated};
+use crate::market::{answers_to, close, sent, sheet_at, taken, tariff, year};
+use history::{Answer, Call, Named, Spending};
 use std::test::Fail;
-
-// The sheet that the call with this place in the list filled.
-fn sheet_at(answers: &[Answer], place: usize) -> Option<Sheet> {
-    match answers.get(place) {
-        Some(Answer::Closed(sheet)) => Some(*sheet),
-        _ => None,
-    }
-}
 
 #[test]
 fn a_month_is_closed_and_its_station_paid(rt: HostRuntime) -> Result<(), Fail> {
@@ -19,10 +10,7 @@ fn a_month_is_closed_and_its_station_paid(rt: HostRuntime) -> Result<(), Fail> {
         tariff(),
         Call::Meter(sent()),
         Call::Deliver(taken()),
-        Call::Close(Stated {
-            readings: 1,
-            deliveries: 1,
-        }),
+        close(1, 1),
         Call::Draw(1),
         Call::Present(Spending::Release, Named::Drawn(1)),
         Call::Present(Spending::Hold, Named::Drawn(1)),

@@ -2,8 +2,16 @@
 #![tactic(auto)]
 
 #[cfg(test)]
+mod closings;
+#[cfg(test)]
+mod filings;
+#[cfg(test)]
 mod first_month;
 #[cfg(test)]
+mod foreign;
+#[cfg(test)]
 mod market;
+#[cfg(test)]
+mod money;
 #[cfg(test)]
 mod refusals;

@@ -1,31 +1,42 @@
 // A market with one station and one licensee, and the calls that are made of its house.
+use accounts::Sheet;
 use agreements::TwoPart;
-use banks::One;
-use history::{Answer, Call, Orders, Unperformed, perform};
+use banks::{Bank, One};
+use history::{Answer, Call, Orders, Stated, Unperformed, perform};
 use ledger::Refusal;
 use metering::{BLOCKS, Figures, Kind, Reading, make_reading};
-use methodology::ThreeIntervals;
+use methodology::{Methodology, ThreeIntervals};
 use std::alloc::Global;
 use tariffs::{Filing, Row};
 
 // The number that the house's pay orders bear.
-const SERIAL: u64 = 7;
+pub const SERIAL: u64 = 7;
 
-// What a meter with number 1 measured: kW, and kWh at 01:00, 06:00 and 19:00.
-pub fn reading(kind: Kind, demand: u32, energies: [u32; 3]) -> Reading {
-    let mut blocks = [0; BLOCKS];
-    blocks[2] = energies[0];
-    blocks[12] = energies[1];
-    blocks[38] = energies[2];
+// What a meter measured in each block: kW, and kWh.
+pub fn metered(kind: Kind, number: u32, demand: u32, blocks: [u32; BLOCKS]) -> Reading {
     let figures = Figures {
         kind: kind.number() as u32,
-        number: 1,
+        number,
         demand,
         blocks,
     };
     let mut reading = Reading::empty();
     let _ = make_reading(&figures, &mut reading);
     reading
+}
+
+// What a meter measured: kW, and kWh at 01:00, 06:00 and 19:00.
+pub fn reading_of(kind: Kind, number: u32, demand: u32, energies: [u32; 3]) -> Reading {
+    let mut blocks = [0; BLOCKS];
+    blocks[2] = energies[0];
+    blocks[12] = energies[1];
+    blocks[38] = energies[2];
+    metered(kind, number, demand, blocks)
+}
+
+// The same by a meter with number 1.
+pub fn reading(kind: Kind, demand: u32, energies: [u32; 3]) -> Reading {
+    reading_of(kind, 1, demand, energies)
 }
 
 pub fn sent() -> Reading {
@@ -40,8 +51,8 @@ pub fn year() -> Call {
     Call::Year(Row::of(&[1_000, 100]))
 }
 
-pub fn tariff() -> Call {
-    Call::Tariff(Filing {
+pub fn filing() -> Filing {
+    Filing {
         costs: Row::of(&[1_080, 486, 49]),
         peaks: 540,
         energy_cost: 2_100,
@@ -50,21 +61,35 @@ pub fn tariff() -> Call {
         factors: Row::of(&[40_000, 0, 0]),
         coefficients: Row::of(&[1_000, 1_200, 1_000]),
         interest: 0,
+    }
+}
+
+pub fn tariff() -> Call {
+    Call::Tariff(filing())
+}
+
+pub fn close(readings: usize, deliveries: usize) -> Call {
+    Call::Close(Stated {
+        readings,
+        deliveries,
     })
 }
 
-// What is answered to the calls. No order of another house is there, and what is still in hand at the end is held.
-pub fn answers_to(heap: Global, calls: &[Call]) -> Result<Vec<Answer>, Unperformed> {
-    let agreement = TwoPart::new(100, 20_000, 50_000).unwrap();
+// The station's agreement: 100 kW at 20,000 grains, and 50,000 a kWh.
+pub fn agreement() -> TwoPart {
+    TwoPart::new(100, 20_000, 50_000).unwrap()
+}
+
+// What is answered to the calls of a house over any bank and methodology. No order of another house is there, and what is
+// still in hand at the end is held.
+pub fn answers_of<B: Bank + Drop, M: Methodology + Drop>(
+    heap: Global,
+    bank: B,
+    methodology: M,
+    calls: &[Call],
+) -> Result<Vec<Answer>, Unperformed> {
     let mut others = Orders::with_room(heap, 0)?;
-    let outcome = perform(
-        heap,
-        One::new(agreement),
-        ThreeIntervals,
-        SERIAL,
-        calls,
-        &mut others,
-    );
+    let outcome = perform(heap, bank, methodology, SERIAL, calls, &mut others);
     match others.end() {
         Ok(()) => {}
         Err(_) => unreachable!(),
@@ -73,10 +98,23 @@ pub fn answers_to(heap: Global, calls: &[Call]) -> Result<Vec<Answer>, Unperform
     Ok(answers)
 }
 
+// The same of the market's own house.
+pub fn answers_to(heap: Global, calls: &[Call]) -> Result<Vec<Answer>, Unperformed> {
+    answers_of(heap, One::new(agreement()), ThreeIntervals, calls)
+}
+
 // Why the call with this place in the list was refused, if it was.
 pub fn refusal_at(answers: &[Answer], place: usize) -> Option<Refusal> {
     match answers.get(place) {
         Some(Answer::Refused(why)) => Some(*why),
+        _ => None,
+    }
+}
+
+// The sheet that the call with this place in the list filled.
+pub fn sheet_at(answers: &[Answer], place: usize) -> Option<Sheet> {
+    match answers.get(place) {
+        Some(Answer::Closed(sheet)) => Some(*sheet),
         _ => None,
     }
 }

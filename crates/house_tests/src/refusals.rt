@@ -1,18 +1,11 @@
 // Calls that are turned down, each for its own reason, and what goes on after them.
-use crate::market::{answers_to, reading, refusal_at, sent, taken, tariff, year};
+use crate::market::{answers_to, close, reading, refusal_at, sent, taken, tariff, year};
 use agreements::{Cause, Fault};
-use history::{Answer, Call, Named, Spending, Stated};
+use history::{Answer, Call, Named, Spending};
 use ledger::Refusal;
 use metering::Kind;
 use std::test::Fail;
 use tariffs::Row;
-
-fn close(readings: usize, deliveries: usize) -> Call {
-    Call::Close(Stated {
-        readings,
-        deliveries,
-    })
-}
 
 #[test]
 fn calls_come_in_the_order_of_the_year(rt: HostRuntime) -> Result<(), Fail> {

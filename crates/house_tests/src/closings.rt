@@ -1,0 +1,171 @@
+// Months that cannot be closed, and how each is mended.
+ghost use Rattle.std.specs.Prelude.{◌≤◌};
+ghost use Rattle.agreements.specs.Limits.{energy_price_limit};
+
+use crate::market::{
+    agreement, answers_of, answers_to, close, filing, reading, reading_of, refusal_at, sent,
+    sheet_at, tariff, year,
+};
+use agreements::TwoPart;
+use banks::{Beside, Listed, One};
+use history::Call;
+use ledger::Refusal;
+use metering::Kind;
+use methodology::ThreeIntervals;
+use std::alloc::{AllocError, Global};
+use std::test::Fail;
+use tariffs::{Filing, Row};
+
+// The most that a meter may show, kW, and its price, grains per kW.
+const DEMAND: u32 = 2_000_000;
+
+const CAPACITY_PRICE: u64 = 50_000_000_000;
+
+const ENERGY_PRICE: u64 = 100_000_000;
+
+// The highest balance, in size.
+const BALANCE: i64 = 4_000_000_000_000_000_000;
+
+// An agreement whose capacity due may be 10^17 grains.
+fn dear(energy_price: u64) -> TwoPart
+    requires { energy_price ≤ energy_price_limit }
+{
+    TwoPart::new(2_000_000, CAPACITY_PRICE, energy_price).unwrap()
+}
+
+// Two more stations send in the kWh that are missing.
+#[test]
+fn no_more_is_delivered_than_was_sent(rt: HostRuntime) -> Result<(), Fail> {
+    let calls = [
+        year(),
+        tariff(),
+        Call::Meter(sent()),
+        Call::Deliver(reading(Kind::Licensee, 90, [18, 31, 22])),
+        close(1, 1),
+        Call::Meter(reading_of(Kind::Generator, 2, 0, [0, 1, 1])),
+        close(2, 1),
+        Call::Meter(reading_of(Kind::Generator, 3, 0, [0, 0, 1])),
+        close(3, 1),
+    ];
+    let two = Beside::new(One::new(agreement()), One::new(agreement()));
+    let bank = Beside::new(two, One::new(agreement()));
+    let answers = answers_of(rt.alloc(), bank, ThreeIntervals, &calls)?;
+    assert_eq!(rt; refusal_at(&answers, 4), Some(Refusal::Supply(4)));
+    assert_eq!(rt; refusal_at(&answers, 6), Some(Refusal::Supply(5)));
+    assert!(rt; sheet_at(&answers, 8).is_some(), "closed");
+    Ok(())
+}
+
+// 30 kWh were sent in at E1, and 14 delivered; a second licensee takes the kWh that makes them 15.
+#[test]
+fn twice_what_was_delivered_may_be_sent(rt: HostRuntime) -> Result<(), Fail> {
+    let calls = [
+        year(),
+        tariff(),
+        Call::Meter(sent()),
+        Call::Deliver(reading(Kind::Licensee, 90, [18, 14, 19])),
+        close(1, 1),
+        Call::Deliver(reading_of(Kind::Licensee, 2, 0, [0, 1, 0])),
+        close(1, 2),
+    ];
+    let answers = answers_to(rt.alloc(), &calls)?;
+    assert_eq!(rt; refusal_at(&answers, 4), Some(Refusal::Supply(4)));
+    assert!(rt; sheet_at(&answers, 6).is_some(), "closed");
+    Ok(())
+}
+
+// 10^17 grains over a demand of 1 kW, then of 1,999,999 kW, and at last of 2,000,000 kW: 5 * 10^10 is the limit.
+#[test]
+fn a_demand_rate_keeps_its_limit(rt: HostRuntime) -> Result<(), Fail> {
+    let calls = [
+        year(),
+        tariff(),
+        Call::Meter(reading(Kind::Generator, DEMAND, [20, 30, 20])),
+        Call::Deliver(reading(Kind::Licensee, 1, [18, 28, 19])),
+        close(1, 1),
+        Call::Deliver(reading_of(Kind::Licensee, 2, 1_999_998, [0, 0, 0])),
+        close(1, 2),
+        Call::Deliver(reading_of(Kind::Licensee, 3, 1, [0, 0, 0])),
+        close(1, 3),
+    ];
+    let answers = answers_of(rt.alloc(), One::new(dear(50_000)), ThreeIntervals, &calls)?;
+    assert_eq!(rt; refusal_at(&answers, 4), Some(Refusal::RateOverLimit(1)));
+    assert_eq!(rt; refusal_at(&answers, 6), Some(Refusal::RateOverLimit(1)));
+    let sheet = sheet_at(&answers, 8).ok_or("the month is not closed")?;
+    assert_eq!(rt; sheet.heads[0].actual, CAPACITY_PRICE);
+    Ok(())
+}
+
+// A kWh is due 10^8 grains, the limit. Of those sent in all must be delivered.
+#[test]
+fn an_energy_rate_keeps_its_limit(rt: HostRuntime) -> Result<(), Fail> {
+    let calls = [
+        year(),
+        tariff(),
+        Call::Meter(reading(Kind::Generator, 100, [20, 30, 20])),
+        Call::Deliver(reading(Kind::Licensee, 90, [20, 30, 19])),
+        close(1, 1),
+        Call::Deliver(reading_of(Kind::Licensee, 8, 0, [0, 0, 1])),
+        close(1, 2),
+    ];
+    let bank = One::new(TwoPart::new(100, 20_000, ENERGY_PRICE).unwrap());
+    let answers = answers_of(rt.alloc(), bank, ThreeIntervals, &calls)?;
+    assert_eq!(rt; refusal_at(&answers, 4), Some(Refusal::RateOverLimit(5)));
+    let sheet = sheet_at(&answers, 6).ok_or("the month is not closed")?;
+    assert_eq!(rt; sheet.heads[4].actual, ENERGY_PRICE);
+    Ok(())
+}
+
+// A first station that is paid for energy alone, and eight that are paid 10^17 grains for capacity alone.
+fn nine_stations(heap: Global) -> Option<Listed<TwoPart>> {
+    let mut bank = Listed::new(heap);
+    let energy = TwoPart::new(100, 0, 50_000).unwrap();
+    bank.push(energy).ok()?;
+    for _ in 0..8 {
+        bank.push(dear(0)).ok()?;
+    }
+    Some(bank)
+}
+
+// A month in which the first station sends, and eight licensees show the most that a meter may.
+fn greatest_demand(calls: &mut Vec<Call>) -> Result<(), AllocError> {
+    calls.push(Call::Meter(sent()))?;
+    calls.push(Call::Deliver(reading(Kind::Licensee, DEMAND, [18, 28, 19])))?;
+    for number in 2..9 {
+        calls.push(Call::Deliver(reading_of(Kind::Licensee, number, DEMAND, [0, 0, 0])))?;
+    }
+    calls.push(close(1, 8))?;
+    Ok(())
+}
+
+// G is published at 10,000 * 10^14 / 20,000,000 = 5 * 10^10, its limit. Eight licensees at 2,000,000 kW pay 8 * 10^17 a
+// month, for which no station has earned anything: after five months the balance is at its limit. In the sixth the
+// stations earn as much as is paid, once they are read.
+#[test]
+fn a_balance_keeps_its_limit(rt: HostRuntime) -> Result<(), Fail> {
+    let heap = rt.alloc();
+    let mut calls = Vec::new(heap);
+    calls.push(year())?;
+    calls.push(Call::Tariff(Filing {
+        costs: Row::of(&[100_000_000_000_000, 0, 0]),
+        peaks: 20_000_000,
+        ..filing()
+    }))?;
+    for _ in 0..6 {
+        greatest_demand(&mut calls)?;
+    }
+    for place in 2..10 {
+        calls.push(Call::Meter(reading_of(Kind::Generator, place, DEMAND, [0, 0, 0])))?;
+    }
+    calls.push(close(9, 8))?;
+    let bank = nine_stations(heap).ok_or("no bank")?;
+    let answers = answers_of(heap, bank, ThreeIntervals, &calls)?;
+    let fifth = sheet_at(&answers, 51).ok_or("month 5 is not closed")?;
+    assert_eq!(rt; fifth.heads[0].balance, -BALANCE);
+    assert_eq!(rt; refusal_at(&answers, 61), Some(Refusal::BalancePast(1)));
+    let sixth = sheet_at(&answers, 70).ok_or("month 6 is not closed")?;
+    assert_eq!(rt; sixth.month, 6);
+    assert_eq!(rt; sixth.heads[0].actual, CAPACITY_PRICE);
+    assert_eq!(rt; sixth.heads[0].balance, -BALANCE);
+    Ok(())
+}

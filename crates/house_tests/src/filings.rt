@@ -1,0 +1,243 @@
+// Tariffs that are turned down for a figure that is out of its range, or for a rate that is.
+use crate::market::{answers_to, filing, refusal_at, tariff, year};
+use history::{Answer, Call};
+use ledger::Refusal;
+use std::test::Fail;
+use tariffs::{Filing, Row};
+
+// Most that may be filed.
+const COST: u64 = 100_000_000_000_000;
+
+const SENT: u64 = 100_000_000_000;
+
+const DELIVERED: u64 = 48_000_000_000;
+
+// Filings with one count that does not fit the heads.
+fn miscounted() -> [Filing; 5] {
+    let filing = filing();
+    [
+        Filing {
+            costs: Row::of(&[1_080, 486]),
+            ..filing
+        },
+        Filing {
+            costs: Row::of(&[1_080, 486, 49, 0]),
+            ..filing
+        },
+        Filing {
+            delivered: Row::of(&[168, 114]),
+            ..filing
+        },
+        Filing {
+            factors: Row::of(&[40_000, 0]),
+            ..filing
+        },
+        Filing {
+            coefficients: Row::of(&[1_000, 1_200, 1_000, 1_000]),
+            ..filing
+        },
+    ]
+}
+
+// Filings with one figure that is out of its range.
+fn misfigured() -> [Filing; 11] {
+    let filing = filing();
+    [
+        Filing {
+            costs: Row::of(&[1_080, COST + 1, 49]),
+            ..filing
+        },
+        Filing { peaks: 0, ..filing },
+        Filing {
+            peaks: 96_000_001,
+            ..filing
+        },
+        Filing {
+            energy_cost: COST + 1,
+            ..filing
+        },
+        Filing { sent: 0, ..filing },
+        Filing {
+            sent: SENT + 1,
+            ..filing
+        },
+        Filing {
+            delivered: Row::of(&[168, 0, 108]),
+            ..filing
+        },
+        Filing {
+            delivered: Row::of(&[168, 114, DELIVERED + 1]),
+            ..filing
+        },
+        Filing {
+            factors: Row::of(&[1_000_001, 0, 0]),
+            ..filing
+        },
+        Filing {
+            coefficients: Row::of(&[1_000, 1_200, 4_001]),
+            ..filing
+        },
+        Filing {
+            interest: 1_000_001,
+            ..filing
+        },
+    ]
+}
+
+// Every figure at its limit. GE is 10,000 * 10^14 / 10^11 = 10^7, and the intervals' rates are 2 * 4 * 10^7.
+fn greatest() -> Filing {
+    Filing {
+        costs: Row::of(&[COST, COST, COST]),
+        peaks: 96_000_000,
+        energy_cost: COST,
+        sent: SENT,
+        delivered: Row::of(&[DELIVERED, DELIVERED, DELIVERED]),
+        factors: Row::of(&[1_000_000, 1_000_000, 1_000_000]),
+        coefficients: Row::of(&[4_000, 4_000, 4_000]),
+        interest: 1_000_000,
+    }
+}
+
+#[test]
+fn counts_fit_the_heads_and_figures_keep_their_ranges(rt: HostRuntime) -> Result<(), Fail> {
+    let mut calls = [year(); 18];
+    for (place, filing) in miscounted().iter().enumerate() {
+        calls[1 + place] = Call::Tariff(*filing);
+    }
+    for (place, filing) in misfigured().iter().enumerate() {
+        calls[6 + place] = Call::Tariff(*filing);
+    }
+    calls[17] = Call::Tariff(greatest());
+    let answers = answers_to(rt.alloc(), &calls)?;
+    for place in 1..17 {
+        assert_eq!(rt;
+            refusal_at(&answers, place),
+            Some(Refusal::Misfiled),
+            "at {place}"
+        );
+    }
+    assert!(rt;
+        matches!(answers.get(17), Some(Answer::Accepted)),
+        "published"
+    );
+    Ok(())
+}
+
+// Filings with a rate that is out of its range, and the first such head. Where GE is 10,000 * 10,000 / 1 = 10^8, it is at
+// its limit, and so is a cost of 5,000,000 cents over a peak of 1.
+fn misrated() -> [(Filing, usize); 8] {
+    let filing = Filing {
+        peaks: 1,
+        energy_cost: 10_000,
+        sent: 1,
+        factors: Row::of(&[0, 0, 0]),
+        coefficients: Row::of(&[1_000, 1_000, 1_000]),
+        ..filing()
+    };
+    [
+        (
+            Filing {
+                costs: Row::of(&[COST, 486, 49]),
+                ..filing
+            },
+            1,
+        ),
+        (
+            Filing {
+                costs: Row::of(&[5_000_000, 5_000_001, 5_000_001]),
+                ..filing
+            },
+            2,
+        ),
+        (
+            Filing {
+                costs: Row::of(&[1_080, 486, 5_000_001]),
+                energy_cost: 10_001,
+                ..filing
+            },
+            3,
+        ),
+        (
+            Filing {
+                energy_cost: 10_001,
+                ..filing
+            },
+            4,
+        ),
+        (
+            Filing {
+                energy_cost: 10_001,
+                coefficients: Row::of(&[0, 0, 0]),
+                ..filing
+            },
+            4,
+        ),
+        (
+            Filing {
+                factors: Row::of(&[1, 0, 0]),
+                ..filing
+            },
+            4,
+        ),
+        (
+            Filing {
+                coefficients: Row::of(&[1_000, 1_001, 1_001]),
+                ..filing
+            },
+            5,
+        ),
+        (
+            Filing {
+                factors: Row::of(&[0, 0, 1_000_000]),
+                coefficients: Row::of(&[1_000, 1_000, 501]),
+                ..filing
+            },
+            6,
+        ),
+    ]
+}
+
+#[test]
+fn the_first_head_whose_rate_is_out_of_range_is_named(rt: HostRuntime) -> Result<(), Fail> {
+    let cases = misrated();
+    let mut calls = [year(); 10];
+    for (place, (filing, _)) in cases.iter().enumerate() {
+        calls[1 + place] = Call::Tariff(*filing);
+    }
+    calls[9] = tariff();
+    let answers = answers_to(rt.alloc(), &calls)?;
+    for (place, (_, head)) in cases.iter().enumerate() {
+        assert_eq!(rt;
+            refusal_at(&answers, 1 + place),
+            Some(Refusal::RateOutOfRange(*head)),
+            "at {place}"
+        );
+    }
+    assert!(rt;
+        matches!(answers.get(9), Some(Answer::Accepted)),
+        "published"
+    );
+    Ok(())
+}
+
+// A half is taken of what twice the limit would be, and the middle value is not tested.
+#[test]
+fn a_rate_at_its_limit_is_published(rt: HostRuntime) -> Result<(), Fail> {
+    let greatest = Filing {
+        costs: Row::of(&[5_000_000, 5_000_000, 5_000_000]),
+        peaks: 1,
+        energy_cost: 10_000,
+        sent: 1,
+        factors: Row::of(&[0, 0, 1_000_000]),
+        coefficients: Row::of(&[1_000, 1_000, 500]),
+        ..filing()
+    };
+    let calls = [year(), Call::Tariff(greatest), tariff()];
+    let answers = answers_to(rt.alloc(), &calls)?;
+    assert!(rt;
+        matches!(answers.get(1), Some(Answer::Accepted)),
+        "published"
+    );
+    assert_eq!(rt; refusal_at(&answers, 2), Some(Refusal::NotNow));
+    Ok(())
+}

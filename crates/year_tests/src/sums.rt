@@ -1,0 +1,82 @@
+// Sums over the answers and the sheets of two years, in grains unless another unit is named.
+ghost use Rattle.std.specs.Prelude.{◌<◌};
+
+use accounts::Sheet;
+use history::Answer;
+use std::alloc::{AllocError, Global};
+
+// The sheets of all closed months.
+pub fn sheets_of(heap: Global, answers: &[Answer]) -> Result<Vec<Sheet>, AllocError> {
+    let mut sheets = Vec::new(heap);
+    for answer in answers {
+        if let Answer::Closed(sheet) = answer {
+            sheets.push(*sheet)?;
+        }
+    }
+    Ok(sheets)
+}
+
+// How many kW the licensee takes each month.
+const DEMAND: i128 = 90;
+
+// What the months spread under a revenue, grains: each month's rate over the demand, and what it carries on less what the
+// month before carried on.
+pub fn spread(sheets: &[Sheet], head: usize, before: u64) -> i128
+    requires { head < 6 }
+{
+    let mut sum: i128 = 0;
+    let mut carried = before;
+    for sheet in sheets {
+        let line = sheet.heads[head];
+        let rated = DEMAND.wrapping_mul(i128::from(line.actual));
+        sum = sum.wrapping_add(rated);
+        sum = sum.wrapping_add(i128::from(line.carry) - i128::from(carried));
+        carried = line.carry;
+    }
+    sum
+}
+
+// The account over all sheets, grains: the bills and the margins of each, and what stands on the last one.
+pub fn accounted(sheets: &[Sheet]) -> i128 {
+    let mut sum: i128 = 0;
+    for sheet in sheets {
+        for billed in sheet.licensees.iter().flatten() {
+            sum = sum.wrapping_add(i128::from(billed.bill).wrapping_mul(10_000));
+        }
+        sum = sum.wrapping_add(i128::from(sheet.margin));
+    }
+    sum
+}
+
+pub fn standing(last: &Sheet) -> i128 {
+    let mut sum: i128 = 0;
+    for billed in last.licensees.iter().flatten() {
+        sum = sum.wrapping_add(i128::from(billed.fraction));
+    }
+    for line in &last.heads {
+        sum = sum.wrapping_add(i128::from(line.balance) + i128::from(line.carry));
+    }
+    sum
+}
+
+// The dues of all readings, grains.
+pub fn dues(answers: &[Answer]) -> i128 {
+    let mut sum: i128 = 0;
+    for answer in answers {
+        if let Answer::Metered(grains) = answer {
+            sum = sum.wrapping_add(i128::from(*grains));
+        }
+    }
+    sum
+}
+
+// What the released orders paid, cents.
+pub fn payments(answers: &[Answer]) -> i128 {
+    let mut sum: i128 = 0;
+    for answer in answers {
+        if let Answer::Paid(_, cents) = answer {
+            sum = sum.wrapping_add(i128::from(*cents));
+        }
+    }
+    sum
+}

@@ -1,0 +1,175 @@
+// Two years in each methodology: four tariffs and twenty-four months, with an order drawn now and then.
+use crate::plan::{Plan, answers_to, half_year, three, two, two_years};
+use crate::sums::{accounted, dues, payments, sheets_of, spread, standing};
+use accounts::Sheet;
+use history::{Answer, Call};
+use ledger::Refusal;
+use methodology::{Methodology, ThreeIntervals, TwoIntervals};
+use std::alloc::Global;
+use std::process::Abort;
+use std::test::Fail;
+use tariffs::{Filing, Row};
+
+// What is to come of it: the rates of the first two tariffs, of the third and of the fourth, the margin of a month, and
+// the balances after six.
+#[derive(Drop)]
+struct Expected {
+    base: [u64; 6],
+    third: [u64; 6],
+    fourth: [u64; 6],
+    margin: i64,
+    balances: [i64; 6],
+}
+
+// Six months under a tariff: their numbers, margins and published rates.
+fn check_period(
+    rt: &impl Abort,
+    sheets: &[Sheet],
+    first: u8,
+    rates: &[u64; 6],
+    margin: i64,
+) -> Result<(), Fail> {
+    let mut month = first;
+    for sheet in sheets {
+        assert_eq!(rt; sheet.month, month);
+        assert_eq!(rt; sheet.margin, margin, "in month {month}");
+        for (line, rate) in sheet.heads.iter().zip(rates) {
+            assert_eq!(rt; line.published, *rate, "in month {month}");
+        }
+        month = month.wrapping_add(1);
+    }
+    Ok(())
+}
+
+// What the first period leaves in the transactions account.
+fn check_balances(rt: &impl Abort, sheet: &Sheet, balances: &[i64; 6]) -> Result<(), Fail> {
+    for (line, balance) in sheet.heads.iter().zip(balances) {
+        assert_eq!(rt; line.balance, *balance);
+    }
+    Ok(())
+}
+
+// The months of a year together give each company what it was allowed. Its head comes after that of generation.
+fn check_revenues(
+    rt: &impl Abort,
+    sheets: &[Sheet],
+    before: Option<&Sheet>,
+    allowed: &Row,
+) -> Result<(), Fail> {
+    for head in 1..4 {
+        if head <= allowed.count {
+            let carried = before.map_or(0, |sheet| sheet.heads[head].carry);
+            let spread = spread(sheets, head, carried);
+            assert_eq!(rt;
+                spread,
+                10_000 * i128::from(allowed.figure(head - 1)),
+                "head {head}"
+            );
+        }
+    }
+    Ok(())
+}
+
+// Bills, fractions, balances, carries and margins are dues and allowed revenues.
+fn check_account(
+    rt: &impl Abort,
+    answers: &[Answer],
+    sheets: &[Sheet],
+    plan: &Plan,
+) -> Result<(), Fail> {
+    let last = sheets.last().ok_or("no month is closed")?;
+    let mut income = dues(answers);
+    assert_eq!(rt; income, 24 * 5_500_000);
+    assert_eq!(rt; payments(answers), 24 * 550);
+    for revenues in &plan.revenues {
+        for figure in &revenues.figures {
+            income = income.wrapping_add(10_000 * i128::from(*figure));
+        }
+    }
+    assert_eq!(rt; accounted(sheets).wrapping_add(standing(last)), income);
+    Ok(())
+}
+
+fn walk<M: Methodology + Drop>(
+    rt: &impl Abort,
+    heap: Global,
+    methodology: M,
+    plan: &Plan,
+    expected: &Expected,
+) -> Result<(), Fail> {
+    let mut calls = Vec::new(heap);
+    two_years(&mut calls, plan)?;
+    let answers = answers_to(heap, methodology, &calls)?;
+    let sheets = sheets_of(heap, &answers)?;
+    if sheets.len() != 24 {
+        return Err("a month is not closed".into());
+    }
+    check_period(rt, &sheets[..6], 1, &expected.base, expected.margin)?;
+    check_period(rt, &sheets[6..12], 7, &expected.base, expected.margin)?;
+    check_period(rt, &sheets[12..18], 1, &expected.third, expected.margin)?;
+    check_period(rt, &sheets[18..], 7, &expected.fourth, expected.margin)?;
+    check_balances(rt, &sheets[5], &expected.balances)?;
+    check_revenues(rt, &sheets[..12], None, &plan.revenues[0])?;
+    check_revenues(rt, &sheets[12..], Some(&sheets[11]), &plan.revenues[1])?;
+    check_account(rt, &answers, &sheets, plan)
+}
+
+// Period 1 brings G dues of 6 * 2,000,000, of which 30 are carried on, for 6 * 90 * 20,000 that were billed: D is
+// 1,199,970, over peaks of 540 that is 2,222 more. Period 2 brings the same, and with a tenth more that is 2,444.
+// E2 brings -840,009 in either period, over 114 kWh that is -7,369, and with a tenth more -8,106.
+#[test]
+fn two_years_of_three_intervals(rt: HostRuntime) -> Result<(), Fail> {
+    let expected = Expected {
+        base: [20_000, 9_000, 907, 52_000, 60_000, 50_000],
+        third: [22_222, 9_259, 925, 53_571, 52_631, 55_555],
+        fourth: [22_444, 9_284, 927, 53_728, 51_894, 56_110],
+        margin: 0,
+        balances: [1_199_970, 139_950, 10_170, 263_984, -840_009, 599_994],
+    };
+    walk(&rt, rt.alloc(), ThreeIntervals, &three(), &expected)
+}
+
+// Of 20 kWh at E1 and 50 at E2 the allowed supply is 19 * 1.05 and 46 * 1.05, so 19 and 48 kWh: a month's margin is 50,000
+// for each of three. E1 brings 6 * 19 * (50,000 - 63,000) in period 1, over 114 kWh that is -13,000.
+#[test]
+fn two_years_of_two_intervals(rt: HostRuntime) -> Result<(), Fail> {
+    let expected = Expected {
+        base: [20_000, 9_000, 907, 462, 63_000, 52_500],
+        third: [22_222, 9_259, 925, 462, 50_000, 52_173],
+        fourth: [22_444, 9_284, 927, 463, 48_700, 52_140],
+        margin: 150_000,
+        balances: [1_199_970, 139_950, 10_170, 450, -1_482_000, -90_022],
+    };
+    walk(&rt, rt.alloc(), TwoIntervals, &two(), &expected)
+}
+
+// In the third tariff E2 is to give back 7,369 a kWh, of a base rate of 0.
+#[test]
+fn a_rate_below_zero_is_not_published(rt: HostRuntime) -> Result<(), Fail> {
+    let plan = three();
+    let heap = rt.alloc();
+    let mut calls = Vec::new(heap);
+    calls.push(Call::Year(plan.revenues[0]))?;
+    half_year(&mut calls, plan.filing, 0)?;
+    half_year(&mut calls, plan.filing, 1)?;
+    calls.push(Call::Year(plan.revenues[1]))?;
+    let place = calls.len();
+    calls.push(Call::Tariff(Filing {
+        coefficients: Row::of(&[1_000, 0, 1_000]),
+        ..plan.filing
+    }))?;
+    calls.push(Call::Tariff(plan.filing))?;
+    let answers = answers_to(heap, ThreeIntervals, &calls)?;
+    assert!(rt;
+        matches!(
+            answers.get(place),
+            Some(Answer::Refused(Refusal::RateOutOfRange(5)))
+        ),
+        "E2"
+    );
+    assert!(rt;
+        matches!(answers.last(), Some(Answer::Accepted)),
+        "with the coefficient as it was"
+    );
+    Ok(())
+}
