@@ -1,6 +1,7 @@
 // The calls of the quarter, those that are refused among them.
-use crate::market::{filing, revenues, sent, taken};
+use crate::market::{filing, sent, taken};
 use history::{Call, Named, Spending, Stated};
+use worked_figures::year;
 
 fn close(readings: usize, deliveries: usize) -> Call {
     Call::Close(Stated {
@@ -22,7 +23,7 @@ fn hold(which: Named) -> Call {
 fn begin(calls: &mut Vec<Call>) -> anyhow::Result<()> {
     let reading = sent(1, 100, [20, 30, 20])?;
     calls.push(Call::Tariff(filing(486)))?;
-    calls.push(Call::Year(revenues()))?;
+    calls.push(Call::Year(year()))?;
     calls.push(Call::Tariff(filing(10_000_000_000_000)))?;
     calls.push(Call::Meter(reading))?;
     calls.push(Call::Tariff(filing(486)))?;
@@ -76,7 +77,7 @@ fn third(calls: &mut Vec<Call>) -> anyhow::Result<()> {
     calls.push(Call::Draw(2))?;
     calls.push(Call::Draw(0))?;
     calls.push(release(Named::Drawn(3)))?;
-    calls.push(Call::Year(revenues()))?;
+    calls.push(Call::Year(year()))?;
     Ok(())
 }
 
@@ -90,7 +91,7 @@ pub fn quarter(calls: &mut Vec<Call>) -> anyhow::Result<()> {
 
 // The calls after which one order is in hand.
 pub fn up_to_an_order(calls: &mut Vec<Call>) -> anyhow::Result<()> {
-    calls.push(Call::Year(revenues()))?;
+    calls.push(Call::Year(year()))?;
     calls.push(Call::Tariff(filing(486)))?;
     calls.push(Call::Meter(sent(1, 100, [20, 30, 20])?))?;
     calls.push(Call::Draw(1))?;

@@ -5,7 +5,7 @@ mod calls;
 mod market;
 
 use crate::calls::{quarter, up_to_an_order};
-use crate::market::{Stations, stations, two_part};
+use crate::market::{Stations, stations};
 use agreements::TwoPart;
 use anyhow::anyhow;
 use banks::{Bank, One};
@@ -16,6 +16,7 @@ use printout::Printer;
 use sheet::{TEXT_LIMIT, write_sheet};
 use std::alloc::Global;
 use std::io::Write;
+use worked_figures::agreement;
 
 // The numbers that the pay orders of the two houses bear.
 const SERIAL: u64 = 1;
@@ -103,7 +104,7 @@ fn run(rt: &HostRuntime) -> anyhow::Result<()> {
     up_to_an_order(&mut other_calls)?;
     let bank = stations()?;
     let places = bank.places();
-    let Ok(other) = other_house(heap, two_part()?, &other_calls) else {
+    let Ok(other) = other_house(heap, agreement(), &other_calls) else {
         return Err(anyhow!("the other house's calls are not performed"));
     };
     let Ok((house, answers)) = perform_quarter(heap, bank, other, &calls) else {

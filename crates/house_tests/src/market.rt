@@ -1,13 +1,12 @@
 // A market with one station and one licensee, and the calls that are made of its house.
 use accounts::Sheet;
-use agreements::TwoPart;
 use banks::{Bank, One};
 use history::{Answer, Call, Orders, Stated, Unperformed, perform};
 use ledger::Refusal;
 use metering::{BLOCKS, Figures, Kind, Reading, make_reading};
 use methodology::{Methodology, ThreeIntervals};
 use std::alloc::Global;
-use tariffs::{Filing, Row};
+pub use worked_figures::{agreement, sent, taken, tariff as filing};
 
 // The number that the house's pay orders bear.
 pub const SERIAL: u64 = 7;
@@ -26,12 +25,11 @@ pub fn metered(kind: Kind, number: u32, demand: u32, blocks: [u32; BLOCKS]) -> R
 }
 
 // What a meter measured: kW, and kWh at 01:00, 06:00 and 19:00.
-pub fn reading_of(kind: Kind, number: u32, demand: u32, energies: [u32; 3]) -> Reading {
-    let mut blocks = [0; BLOCKS];
-    blocks[2] = energies[0];
-    blocks[12] = energies[1];
-    blocks[38] = energies[2];
-    metered(kind, number, demand, blocks)
+pub fn reading_of(kind: Kind, number: u8, demand: u32, energies: [u32; 3]) -> Reading {
+    match worked_figures::measured(kind, number, demand, energies[0], energies[1], energies[2]) {
+        Ok(reading) => reading,
+        Err(_) => Reading::empty(),
+    }
 }
 
 // The same by a meter with number 1.
@@ -39,29 +37,8 @@ pub fn reading(kind: Kind, demand: u32, energies: [u32; 3]) -> Reading {
     reading_of(kind, 1, demand, energies)
 }
 
-pub fn sent() -> Reading {
-    reading(Kind::Generator, 100, [20, 30, 20])
-}
-
-pub fn taken() -> Reading {
-    reading(Kind::Licensee, 90, [18, 28, 19])
-}
-
 pub fn year() -> Call {
-    Call::Year(Row::of(&[1_000, 100]))
-}
-
-pub fn filing() -> Filing {
-    Filing {
-        costs: Row::of(&[1_080, 486, 49]),
-        peaks: 540,
-        energy_cost: 2_100,
-        sent: 420,
-        delivered: Row::of(&[168, 114, 108]),
-        factors: Row::of(&[40_000, 0, 0]),
-        coefficients: Row::of(&[1_000, 1_200, 1_000]),
-        interest: 0,
-    }
+    Call::Year(worked_figures::year())
 }
 
 pub fn tariff() -> Call {
@@ -73,11 +50,6 @@ pub fn close(readings: usize, deliveries: usize) -> Call {
         readings,
         deliveries,
     })
-}
-
-// The station's agreement: 100 kW at 20,000 grains, and 50,000 a kWh.
-pub fn agreement() -> TwoPart {
-    TwoPart::new(100, 20_000, 50_000).unwrap()
 }
 
 // What is answered to the calls of a house over any bank and methodology. No order of another house is there, and what is

@@ -21,7 +21,7 @@ use Rattle.settlement.specs.declared.fault.CloseFault.{CloseFault}
 use Rattle.settlement.specs.declared.fault.CloseFault.TheVariants.{Counts, NoQuantity, Supply, RateOverLimit, BalancePast}
 use Rattle.settlement.specs.Closing.{Case, case_of, old, published, quantity, share, pool, sent, unit, rest, supply, spread, margin, actual, carry, difference, balance, owed, bill, fraction, Empty, Unsupplied, Over, Past}
 use Rattle.settlement.specs.Closed.{line_of, billed_of, Closed, Refused}
-use Rattle.worked_cases.specs.FirstCalls.{in_blocks, FirstSent, FirstTaken}
+use Rattle.worked_figures.specs.FirstCalls.{in_blocks, FirstSent, FirstTaken}
 
 -- the figures of a head
 record Values (c : Case) (k a r : ℕ) (b m : ℤ) : Type 0 where

@@ -11,7 +11,7 @@ use Rattle.ledger.specs.Views.{View}
 use Rattle.ledger.specs.Calls.{NewHouse}
 use Rattle.ledger.specs.Runs.{Event, filed, priced, metered, delivered, Run, new, year, tariff, meter, deliver, close}
 use Rattle.worked_agreements.proofs.Cases.{worked}
-use Rattle.worked_cases.specs.FirstCalls.{first_row, FirstYear, FirstTariff, FirstSent, FirstTaken}
+use Rattle.worked_figures.specs.FirstCalls.{first_row, FirstYear, FirstTariff, FirstSent, FirstTaken}
 use Rattle.worked_cases.specs.FirstMonth.{calls, accepted_calls, WorkedMonth}
 use Rattle.worked_cases.specs.Cases.{WorkedCases}
 use Rattle.worked_cases.proofs.Small.{adjustment, closing}

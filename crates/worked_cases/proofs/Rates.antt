@@ -14,7 +14,7 @@ use Rattle.tariffs.specs.Publishing.{generation_energy, filed_factor, base_rate,
 use Rattle.accounts.specs.declared.account.Account.{Account}
 use Rattle.accounts.specs.declared.books.Books.{Books}
 use Rattle.accounts.specs.Books.{no_account, earlier, Unused}
-use Rattle.worked_cases.specs.FirstCalls.{FirstTariff}
+use Rattle.worked_figures.specs.FirstCalls.{FirstTariff}
 use Rattle.worked_cases.proofs.Figures.{six, rate_at}
 
 -- books without money have no differences

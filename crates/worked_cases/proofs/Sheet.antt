@@ -15,7 +15,7 @@ use Rattle.settlement.specs.Law.{bill_of}
 use Rattle.ledger.specs.Accepted.{some_or}
 use Rattle.ledger.specs.Law.{covered, costs}
 use Rattle.sheet.specs.Text.{sheet_text, lines, month_line, head_line, licensee_line, margin_line}
-use Rattle.worked_cases.specs.FirstCalls.{first_row, FirstFigures}
+use Rattle.worked_figures.specs.FirstCalls.{first_row, FirstFigures}
 use Rattle.worked_cases.specs.FirstMonth.{first_text, accepted_calls, Printed}
 use Rattle.worked_cases.proofs.Figures.{Shown, line}
 

@@ -26,7 +26,7 @@ use Rattle.ledger.specs.Views.{View, rules, till_of, month_of, books_of, with_ta
 use Rattle.ledger.specs.Terms.{dues_at}
 use Rattle.ledger.specs.Calls.{Year, Tariff, Meter, Deliver, Close, case_at}
 use Rattle.ledger.proofs.Months.{refused_not}
-use Rattle.worked_cases.specs.FirstCalls.{first_row, FirstYear, FirstTariff, FirstSent, FirstTaken}
+use Rattle.worked_figures.specs.FirstCalls.{first_row, FirstYear, FirstTariff, FirstSent, FirstTaken}
 use Rattle.worked_cases.proofs.Figures.{rate_at, first_dues, Standing, not_refused, Shown, shown}
 use Rattle.worked_cases.proofs.Rates.{no_differences, not_faulty, rates_are}
 

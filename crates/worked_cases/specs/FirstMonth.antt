@@ -11,7 +11,7 @@ use Rattle.ledger.specs.Views.{View}
 use Rattle.ledger.specs.Runs.{Event, filed, priced, metered, delivered, closed, Run}
 use Rattle.ledger.specs.Law.{covered, costs}
 use Rattle.sheet.specs.Text.{sheet_text}
-use Rattle.worked_cases.specs.FirstCalls.{first_row, FirstFigures}
+use Rattle.worked_figures.specs.FirstCalls.{first_row, FirstFigures}
 
 abbrev pub first_text : List ℕ
 first_text =

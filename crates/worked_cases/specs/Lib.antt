@@ -1,6 +1,5 @@
 pub mod Adjustment
 pub mod Closing
-pub mod FirstCalls
 pub mod FirstMonth
 pub mod House
 pub mod Cases

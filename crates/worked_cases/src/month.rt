@@ -5,12 +5,12 @@ ghost use Rattle.worked_cases.specs.FirstMonth.{first_text, FirstRun};
 ghost use Rattle.worked_cases.specs.Cases.{WorkedCases};
 ghost use Rattle.worked_cases.specs.House.{shown};
 
-use crate::given::{sent, taken, tariff, year};
 use accounts::Sheet;
 use agreements::TwoPart;
 use banks::One;
 use house::House;
 use methodology::{Methodology, ThreeIntervals};
+use worked_figures::{agreement, sent, taken, tariff, year};
 
 // Three intervals, and one station under a two-part agreement.
 pub type Market = House<One<TwoPart>, ThreeIntervals>;
@@ -28,8 +28,7 @@ pub fn first_month(serial: u64) -> FirstMonth
     ensures run { FirstRun serial result.sheet (shown result.house) }
     ensures cases { WorkedCases }
 {
-    let agreement = TwoPart::new(100, 20_000, 50_000).unwrap();
-    let mut house = House::new(One::new(agreement), ThreeIntervals, serial);
+    let mut house = House::new(One::new(agreement()), ThreeIntervals, serial);
     let mut sheet = Sheet::empty(ThreeIntervals::shape());
     house.year(&year()).unwrap();
     house.tariff(&tariff()).unwrap();

@@ -1,11 +1,10 @@
 // What a market files in two years, and the calls that are made of its house.
-use agreements::TwoPart;
 use banks::One;
 use history::{Answer, Call, Named, Orders, Spending, Stated, Unperformed, perform};
-use metering::{BLOCKS, Figures, Kind, Reading, make_reading};
 use methodology::Methodology;
 use std::alloc::{AllocError, Global};
 use tariffs::{Filing, Row};
+use worked_figures::{agreement, sent, taken, tariff, year};
 
 // The revenues of each year, and a tariff, of which the fourth has an interest of a tenth.
 #[derive(Drop)]
@@ -16,17 +15,8 @@ pub struct Plan {
 
 pub fn three() -> Plan {
     Plan {
-        revenues: [Row::of(&[1_000, 100]), Row::of(&[1_300, 130])],
-        filing: Filing {
-            costs: Row::of(&[1_080, 486, 49]),
-            peaks: 540,
-            energy_cost: 2_100,
-            sent: 420,
-            delivered: Row::of(&[168, 114, 108]),
-            factors: Row::of(&[40_000, 0, 0]),
-            coefficients: Row::of(&[1_000, 1_200, 1_000]),
-            interest: 0,
-        },
+        revenues: [year(), Row::of(&[1_300, 130])],
+        filing: tariff(),
     }
 }
 
@@ -46,23 +36,6 @@ pub fn two() -> Plan {
     }
 }
 
-// What a meter with number 1 measured each month: kW, and kWh at 01:00, 06:00 and 19:00.
-fn reading(kind: Kind, demand: u32, energies: [u32; 3]) -> Reading {
-    let mut blocks = [0; BLOCKS];
-    blocks[2] = energies[0];
-    blocks[12] = energies[1];
-    blocks[38] = energies[2];
-    let figures = Figures {
-        kind: kind.number() as u32,
-        number: 1,
-        demand,
-        blocks,
-    };
-    let mut reading = Reading::empty();
-    let _ = make_reading(&figures, &mut reading);
-    reading
-}
-
 // What is done after a month with all that stands, and which draw it is.
 fn payment_after(month: usize) -> Option<(usize, Spending)> {
     match month {
@@ -78,8 +51,8 @@ fn payment_after(month: usize) -> Option<(usize, Spending)> {
 pub fn half_year(calls: &mut Vec<Call>, filing: Filing, half: u8) -> Result<(), AllocError> {
     calls.push(Call::Tariff(filing))?;
     for month in 1..7 {
-        calls.push(Call::Meter(reading(Kind::Generator, 100, [20, 30, 20])))?;
-        calls.push(Call::Deliver(reading(Kind::Licensee, 90, [18, 28, 19])))?;
+        calls.push(Call::Meter(sent()))?;
+        calls.push(Call::Deliver(taken()))?;
         calls.push(Call::Close(Stated {
             readings: 1,
             deliveries: 1,
@@ -111,7 +84,7 @@ pub fn answers_to<M: Methodology + Drop>(
     methodology: M,
     calls: &[Call],
 ) -> Result<Vec<Answer>, Unperformed> {
-    let bank = One::new(TwoPart::new(100, 20_000, 50_000).unwrap());
+    let bank = One::new(agreement());
     let mut others = Orders::with_room(heap, 0)?;
     let outcome = perform(heap, bank, methodology, 1, calls, &mut others);
     match others.end() {

@@ -1,8 +1,6 @@
-use Rattle.std.proofs.Common.{◌≡◌, ℕ, List, [], ◌∷◌, Ok, true, Err, Result, sym, ap, ◌∙◌, subst}
+use Rattle.std.proofs.Common.{◌≡◌, ℕ, List, [], ◌∷◌, Ok, Result, ap, ◌∙◌, subst}
 use Rattle.std.specs.Result.{IsOk, is_ok}
 use Rattle.agreements.specs.declared.two_part.TwoPart.{TwoPart}
-use Rattle.agreements.specs.declared.fault.OverLimit.{OverLimit}
-use Rattle.agreements.specs.Making.{Makes}
 use Rattle.agreements.specs.TwoParts.{two_part, meaning_of_two_part}
 use Rattle.banks.specs.declared.one.One.{One}
 use Rattle.methodology.specs.Markets.{three_shape, three_meaning}
@@ -10,21 +8,15 @@ use Rattle.ledger.specs.Views.{View}
 use Rattle.ledger.specs.Calls.{NewHouse}
 use Rattle.ledger.specs.Runs.{Event, Run, new, year, tariff, meter, deliver, close}
 use Rattle.house.specs.Shown.{Over}
-use Rattle.worked_cases.specs.FirstCalls.{first_row}
+use Rattle.worked_figures.specs.FirstCalls.{first_row}
 use Rattle.ledger.specs.declared.refusal.Refusal.{Refusal}
 use Rattle.worked_cases.proofs.Joint.{worked_cases, year_ok, tariff_ok, meter_ok, close_ok, all_ok}
 use Rattle.worked_cases.proofs.Sheet.{text_is}
 use Rattle.worked_cases.proofs.month.first_month.Goals as goal
 
--- the agreement that was made is the first month's
-made_as : (r : Result TwoPart OverLimit) (a : TwoPart) → Makes true meaning_of_two_part (two_part 100 20000 50000) r → r ≡ Ok a → meaning_of_two_part a ≡ two_part 100 20000 50000
-made_as (Ok b) a m e = let same : b ≡ a = cc in ap meaning_of_two_part (sym same) ∙ m.1
-made_as (Err x) a m e = cc
-
--- a house newly made over a bank of that agreement
-begin : {serial : ℕ} {v : View} {b : One TwoPart} (r : Result TwoPart OverLimit) (a : TwoPart) → Makes true meaning_of_two_part (two_part 100 20000 50000) r → r ≡ Ok a → b.agreement ≡ a → Over three_shape three_meaning (meaning_of_two_part b.agreement ∷ []) v → NewHouse serial v → Run three_shape three_meaning first_row serial [] [] v
-begin r a m e one over n =
-    new over.shape_is over.market_is (over.row_is ∙ ap (λ x. x ∷ []) (ap meaning_of_two_part one ∙ made_as r a m e)) n
+-- a house newly made over a bank of the month's agreement
+begin : {serial : ℕ} {v : View} {b : One TwoPart} (a : TwoPart) → meaning_of_two_part a ≡ two_part 100 20000 50000 → b.agreement ≡ a → Over three_shape three_meaning (meaning_of_two_part b.agreement ∷ []) v → NewHouse serial v → Run three_shape three_meaning first_row serial [] [] v
+begin a meant one over n = new over.shape_is over.market_is (over.row_is ∙ ap (λ x. x ∷ []) (ap meaning_of_two_part one ∙ meant)) n
 
 is_ok_of : {r : Result (Unit {0}) Refusal} → r ≡ Ok tt → IsOk r
 is_ok_of e = ap is_ok e
@@ -34,27 +26,27 @@ by_other_names {serial} {v} e run = subst (λ es. Run three_shape three_meaning 
 
 pub unwrap-requires : goal.unwrap-requires
 unwrap-requires c =
-    let house = begin c.new.result c.unwrap-agreement.result c.new.ensures c.unwrap-agreement.ensures c.new-2.ensures c.new-house.ensures.over c.new-house.ensures.made in
+    let house = begin c.agreement.result c.agreement.ensures c.new.ensures c.new-house.ensures.over c.new-house.ensures.made in
     is_ok_of (year_ok c.args.serial c.year.result c.year.ensures c.year-2.result (year house c.year-2.ensures)).0
 
 pub unwrap-requires-2 : goal.unwrap-requires-2
 unwrap-requires-2 c =
-    let house = begin c.new.result c.unwrap-agreement.result c.new.ensures c.unwrap-agreement.ensures c.new-2.ensures c.new-house.ensures.over c.new-house.ensures.made in
+    let house = begin c.agreement.result c.agreement.ensures c.new.ensures c.new-house.ensures.over c.new-house.ensures.made in
     is_ok_of (tariff_ok c.args.serial c.year.result c.year.ensures c.year-2.result c.tariff.result c.tariff.ensures c.tariff-2.result (tariff (year house c.year-2.ensures) c.tariff-2.ensures)).0
 
 pub unwrap-requires-3 : goal.unwrap-requires-3
 unwrap-requires-3 c =
-    let house = begin c.new.result c.unwrap-agreement.result c.new.ensures c.unwrap-agreement.ensures c.new-2.ensures c.new-house.ensures.over c.new-house.ensures.made in
+    let house = begin c.agreement.result c.agreement.ensures c.new.ensures c.new-house.ensures.over c.new-house.ensures.made in
     is_ok_of (meter_ok c.args.serial c.year.result c.year.ensures c.year-2.result c.tariff.result c.tariff.ensures c.tariff-2.result c.sent.result c.sent.ensures c.meter.result (meter (tariff (year house c.year-2.ensures) c.tariff-2.ensures) c.meter.ensures)).0
 
 pub unwrap-requires-5 : goal.unwrap-requires-5
 unwrap-requires-5 c =
-    let house = begin c.new.result c.unwrap-agreement.result c.new.ensures c.unwrap-agreement.ensures c.new-2.ensures c.new-house.ensures.over c.new-house.ensures.made in
+    let house = begin c.agreement.result c.agreement.ensures c.new.ensures c.new-house.ensures.over c.new-house.ensures.made in
     is_ok_of (close_ok c.args.serial c.year.result c.year.ensures c.year-2.result c.tariff.result c.tariff.ensures c.tariff-2.result c.sent.result c.sent.ensures c.meter.result c.taken.result c.taken.ensures c.deliver.result c.empty-sheet.result c.close.new.sheet c.close.result (close (deliver (meter (tariff (year house c.year-2.ensures) c.tariff-2.ensures) c.meter.ensures) c.deliver.ensures) c.close.ensures)).0
 
 pub returns : goal.returns
 returns c =
-    let house = begin c.new.result c.unwrap-agreement.result c.new.ensures c.unwrap-agreement.ensures c.new-2.ensures c.new-house.ensures.over c.new-house.ensures.made in
+    let house = begin c.agreement.result c.agreement.ensures c.new.ensures c.new-house.ensures.over c.new-house.ensures.made in
     let run = close (deliver (meter (tariff (year house c.year-2.ensures) c.tariff-2.ensures) c.meter.ensures) c.deliver.ensures) c.close.ensures in
     record {
       text = text_is c.close.new.sheet (close_ok c.args.serial c.year.result c.year.ensures c.year-2.result c.tariff.result c.tariff.ensures c.tariff-2.result c.sent.result c.sent.ensures c.meter.result c.taken.result c.taken.ensures c.deliver.result c.empty-sheet.result c.close.new.sheet c.close.result run).1;

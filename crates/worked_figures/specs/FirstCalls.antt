@@ -1,6 +1,10 @@
--- The calls of the first month: what is filed and measured.
-use Rattle.std.specs.Prelude.{◌≡◌, ℕ, ◌<◌, List, [], ◌∷◌, length, replicate, slice_index, slice_set}
-use Rattle.metering.specs.Limits.{block_count}
+-- The figures of the first month: what is filed and measured.
+use Rattle.std.specs.Prelude.{◌≡◌, ℕ, ◌<◌, List, [], ◌∷◌, Ok, Err, Result, length, replicate, slice_index, slice_set}
+use Rattle.metering.specs.Limits.{block_count, kind_number}
+use Rattle.metering.specs.Verdict.{verdict}
+use Rattle.metering.specs.Makes.{figures_check}
+use Rattle.metering.specs.declared.figures.Figures.{Figures}
+use Rattle.metering.specs.declared.refusal.Refusal.{Refusal}
 use Rattle.metering.specs.declared.reading.Kind.{Kind}
 use Rattle.metering.specs.declared.reading.Kind.TheVariants.{Generator, Licensee}
 use Rattle.metering.specs.declared.reading.Reading.{Reading}
@@ -37,19 +41,28 @@ pub record FirstTariff (f : Filing) : Type 0 where
 abbrev pub in_blocks : ℕ → ℕ → ℕ → List ℕ
 in_blocks a b c = slice_set (slice_set (slice_set (replicate block_count 0) 2 a) 12 b) 38 c
 
--- what a meter with number 1 measured
-pub record Measures (kind : Kind) (demand : ℕ) (energies : List ℕ) (r : Reading) : Type 0 where
+-- what a meter measured
+pub record Measures (kind : Kind) (number demand : ℕ) (energies : List ℕ) (r : Reading) : Type 0 where
   pub kind_is : r.kind ≡ kind
-  pub number_is : r.number ≡ 1
+  pub number_is : r.number ≡ number
   pub demand_is : r.demand ≡ demand
   pub energies_are : r.blocks ≡ energies
 
+-- the figures of a meter, in any numbers
+abbrev pub figures_of : Kind → ℕ → ℕ → List ℕ → Figures
+figures_of kind number demand energies = record { kind = kind_number kind; number = number; demand = demand; blocks = energies }
+
+-- a reading of what a meter measured, or the refusal of its figures
+abbrev pub Reads : Kind → ℕ → ℕ → List ℕ → Result Reading Refusal → Type 0
+Reads kind number demand energies (Ok r) = Measures kind number demand energies r
+Reads kind number demand energies (Err why) = verdict {A = Unit {0}} (Err why) ≡ figures_check (figures_of kind number demand energies)
+
 -- the generator's month, and the licensee's
 abbrev pub FirstSent : Reading → Type 0
-FirstSent = Measures Generator 100 (in_blocks 20 30 20)
+FirstSent = Measures Generator 1 100 (in_blocks 20 30 20)
 
 abbrev pub FirstTaken : Reading → Type 0
-FirstTaken = Measures Licensee 90 (in_blocks 18 28 19)
+FirstTaken = Measures Licensee 1 90 (in_blocks 18 28 19)
 
 -- all that the calls are given
 pub record FirstFigures (year : Row) (tariff : Filing) (sent taken : Reading) : Type 0 where

@@ -1,0 +1,52 @@
+// What meters measured in the worked month.
+ghost use Rattle.metering.specs.declared.reading.Kind.TheVariants.{Generator, Licensee};
+ghost use Rattle.worked_figures.specs.FirstCalls.{FirstSent, FirstTaken, Reads, in_blocks};
+
+use metering::{BLOCKS, Figures, Kind, Reading, Refusal, make_reading};
+
+// One block in each interval of three: 01:00 is off-peak, 06:00 day and 19:00 peak.
+const NIGHT: usize = 2;
+
+const MORNING: usize = 12;
+
+const EVENING: usize = 38;
+
+// What a meter measured: kW, and kWh in the three blocks.
+pub fn measured(
+    kind: Kind,
+    number: u8,
+    demand: u32,
+    night: u32,
+    morning: u32,
+    evening: u32,
+) -> Result<Reading, Refusal>
+    ensures { Reads kind number demand (in_blocks night morning evening) result }
+{
+    let mut blocks = [0; BLOCKS];
+    blocks[NIGHT] = night;
+    blocks[MORNING] = morning;
+    blocks[EVENING] = evening;
+    let figures = Figures {
+        kind: u32::from(kind.number()),
+        number: u32::from(number),
+        demand,
+        blocks,
+    };
+    let mut reading = Reading::empty();
+    make_reading(&figures, &mut reading)?;
+    Ok(reading)
+}
+
+// The generator's month.
+pub fn sent() -> Reading
+    ensures { FirstSent result }
+{
+    measured(Kind::Generator, 1, 100, 20, 30, 20).unwrap()
+}
+
+// The licensee's month.
+pub fn taken() -> Reading
+    ensures { FirstTaken result }
+{
+    measured(Kind::Licensee, 1, 90, 18, 28, 19).unwrap()
+}
