@@ -2,6 +2,7 @@
 #![tactic(auto)]
 
 mod arguments;
+mod counted;
 mod failure;
 mod opening;
 mod printing;
@@ -9,6 +10,7 @@ mod running;
 mod source;
 
 use crate::arguments::{Command, USAGE, asked};
+use crate::counted::Counted;
 use crate::failure::Failure;
 use crate::opening::open_all;
 use crate::running::perform_list;
@@ -77,8 +79,14 @@ fn check(rt: &HostRuntime, path: &str) -> Result<(), Failure> {
     };
     let journal = source.journal(rt)?;
     let list = open_all(rt, source, &journal.entries)?;
-    let stations = journal.stations.places();
-    let calls = list.entries.len();
-    println!(rt; "{path}: {stations} stations, {calls} calls")?;
+    let stations = Counted {
+        count: usize::from(journal.stations.places()),
+        noun: "station",
+    };
+    let calls = Counted {
+        count: list.entries.len(),
+        noun: "call",
+    };
+    println!(rt; "{path}: {stations}, {calls}")?;
     Ok(())
 }
