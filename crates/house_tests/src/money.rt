@@ -35,11 +35,15 @@ fn sent_most() -> Call {
     Call::Meter(metered(Kind::Generator, 1, DEMAND, [ENERGY; BLOCKS]))
 }
 
+fn taken_most() -> Call {
+    Call::Deliver(metered(Kind::Licensee, 1, DEMAND, [ENERGY; BLOCKS]))
+}
+
 // Closes so many months.
 fn months(calls: &mut Vec<Call>, count: u8) -> Result<(), AllocError> {
     for _ in 0..count {
         calls.push(sent_most())?;
-        calls.push(Call::Deliver(metered(Kind::Licensee, 1, DEMAND, [ENERGY; BLOCKS])))?;
+        calls.push(taken_most())?;
         calls.push(close(1, 1))?;
     }
     Ok(())

@@ -54,16 +54,18 @@ one [] rest h = absurd (omega arith)
 one (v ∷ []) rest h = (v, refl)
 one (v ∷ u ∷ ws) rest h = absurd (omega arith)
 
+-- one figure is one word
+one_figure : (name : Name) (ws : Words) (fs : List ℕ) (behind : Words) (row : Row) (rest : Words) → run name [] ws ≡ Ok (fs, behind) → must {A = Row × Words} (eqb (length fs) 1) (Count name 1 (length fs)) (Ok (row_of fs, behind)) ≡ Ok (row, rest) → (v : List ℕ) × (ws ≡ v ∷ rest)
+one_figure name ws fs behind row rest read counted =
+    let q = held (eqb (length fs) 1) (Count name 1 (length fs)) (Ok (row_of fs, behind)) (row, rest) counted in
+    let t = run_takes name [] ws fs behind read in
+    let few : length fs ≡ 1 = eqb-true (length fs) 1 q.0 in
+    let o = one t.0 behind (omega (arith, t.2, few)) in
+    (o.0, t.1 ∙ o.1 ∙ ap (λ l. o.0 ∷ l) (same_rest (row_of fs) row behind rest q.1))
+
 figures_take : (name : Name) (ws : Words) (row : Row) (rest : Words) → figures name 1 ws ≡ Ok (row, rest) → (v : List ℕ) × (ws ≡ v ∷ rest)
 unfolding figures
-figures_take name ws row rest h =
-    let p = both (run name [] ws) _ _ h in
-    let q = held (eqb (length p.0.0) 1) (Count name 1 (length p.0.0)) _ _ p.2 in
-    let t = run_takes name [] ws p.0.0 p.0.1 p.1 in
-    let few : length p.0.0 ≡ 1 = eqb-true (length p.0.0) 1 q.0 in
-    let o = one t.0 p.0.1 (omega (arith, t.2, few)) in
-    let e : p.0.1 ≡ rest = same_rest (row_of p.0.0) row p.0.1 rest q.1 in
-    (o.0, t.1 ∙ o.1 ∙ ap (λ l. o.0 ∷ l) e)
+figures_take name ws row rest h = let p = both (run name [] ws) _ (row, rest) h in one_figure name ws p.0.0 p.0.1 row rest p.1 p.2
 
 named_takes : (name : Name) (ws rest : Words) → named name ws ≡ Ok rest → (w : List ℕ) × (ws ≡ w ∷ rest)
 unfolding named
@@ -72,13 +74,18 @@ named_takes name (w ∷ ws) rest h =
     let p = held (bytes_eq w (name_text name)) (Field name) (Ok ws) rest h in
     (w, ap (λ l. w ∷ l) (same ws rest p.1))
 
--- a name with one figure takes two words
-pub single_takes : (name : Name) (ws : Words) (n : ℕ) (rest : Words) → single name ws ≡ Ok (n, rest) → (w : List ℕ) × (v : List ℕ) × (ws ≡ w ∷ v ∷ rest)
-unfolding single field
-single_takes name ws n rest h =
-    let p = both (field name 1 ws) _ _ h in
-    let e : p.0.1 ≡ rest = same_rest (slice_index p.0.0.figures 0) n p.0.1 rest p.2 in
-    let m = both (named name ws) (figures name 1) p.0 p.1 in
+-- a field of one figure is two words
+one_field : (name : Name) (ws : Words) (row : Row) (rest : Words) → field name 1 ws ≡ Ok (row, rest) → (w : List ℕ) × (v : List ℕ) × (ws ≡ w ∷ v ∷ rest)
+unfolding field
+one_field name ws row rest h =
+    let m = both (named name ws) (figures name 1) (row, rest) h in
     let w = named_takes name ws m.0 m.1 in
-    let v = figures_take name m.0 p.0.0 p.0.1 m.2 in
-    (w.0, v.0, w.1 ∙ ap (λ l. w.0 ∷ l) (v.1 ∙ ap (λ l. v.0 ∷ l) e))
+    let v = figures_take name m.0 row rest m.2 in
+    (w.0, v.0, w.1 ∙ ap (λ l. w.0 ∷ l) v.1)
+
+-- and so is the figure that is read of it
+pub single_takes : (name : Name) (ws : Words) (n : ℕ) (rest : Words) → single name ws ≡ Ok (n, rest) → (w : List ℕ) × (v : List ℕ) × (ws ≡ w ∷ v ∷ rest)
+unfolding single
+single_takes name ws n rest h =
+    let p = both (field name 1 ws) _ (n, rest) h in
+    one_field name ws p.0.0 rest (p.1 ∙ ap (λ l. Ok (p.0.0, l)) (same_rest (slice_index p.0.0.figures 0) n p.0.1 rest p.2))

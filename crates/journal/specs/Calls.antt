@@ -51,32 +51,24 @@ TakesName said (Err e) rest = said ≡ Err e
 
 -- a line that says this and no more
 abbrev pub whole : {A : Type 0} → (A → Call) → Result (A × Words) Expected → Result Call Expected
-whole make said = said >>= λ (x, ws). ended ws >>= λ _. Ok (make x)
+whole make said = do
+  (x, ws) ← said
+  _ ← ended ws
+  Ok (make x)
 
 -- what a tariff files, for a market's revenues and intervals
 unfoldable pub filing_of : Market → Words → Result (Filing × Words) Expected
-filing_of market ws =
-    field Costs (1 + revenues_of market) ws
-    >>= λ (costs, ws). single Peaks ws
-    >>= λ (peaks, ws). single Energy ws
-    >>= λ (energy_cost, ws). single Sent ws
-    >>= λ (sent, ws). field Delivered (intervals_of market) ws
-    >>= λ (delivered, ws). field Losses (intervals_of market) ws
-    >>= λ (factors, ws). field Coefficients (intervals_of market) ws
-    >>= λ (coefficients, ws). single Interest ws
-    >>= λ (interest, ws). Ok (
-      record {
-        costs = costs;
-        peaks = peaks;
-        energy_cost = energy_cost;
-        sent = sent;
-        delivered = delivered;
-        factors = factors;
-        coefficients = coefficients;
-        interest = interest;
-      },
-      ws,
-    )
+filing_of market ws = do
+  (costs, ws) ← field Costs (1 + revenues_of market) ws
+  (peaks, ws) ← single Peaks ws
+  (energy_cost, ws) ← single Energy ws
+  (sent, ws) ← single Sent ws
+  (delivered, ws) ← field Delivered (intervals_of market) ws
+  (factors, ws) ← field Losses (intervals_of market) ws
+  (coefficients, ws) ← field Coefficients (intervals_of market) ws
+  (interest, ws) ← single Interest ws
+  let filing : Filing = record { costs = costs; peaks = peaks; energy_cost = energy_cost; sent = sent; delivered = delivered; factors = factors; coefficients = coefficients; interest = interest }
+  Ok (filing, ws)
 
 unfoldable pub year_of : Market → Words → Result Call Expected
 year_of market ws = whole file_year (field Year (revenues_of market) ws)
@@ -98,7 +90,10 @@ abbrev pub place_of : ℕ → Result Call Expected
 place_of n = must (nat_le n 255) (Most Draw 255) (Ok (draw_at n))
 
 unfoldable pub draw_of : Words → Result Call Expected
-draw_of ws = single Draw ws >>= λ (n, ws). ended ws >>= λ _. place_of n
+draw_of ws = do
+  (n, ws) ← single Draw ws
+  _ ← ended ws
+  place_of n
 
 unfoldable pub release_of : Words → Result Call Expected
 release_of ws = whole release_order (single Release ws)

@@ -52,15 +52,18 @@ Runs said (Err e) rest = said ≡ Err e
 
 -- exactly so many figures
 unfoldable pub figures : Name → ℕ → Words → Result (Row × Words) Expected
-figures name wanted ws =
-    run name [] ws >>= λ (fs, rest). must (length fs == wanted) (Count name wanted (length fs)) (Ok (row_of fs, rest))
+figures name wanted ws = do
+  (fs, rest) ← run name [] ws
+  must (length fs == wanted) (Count name wanted (length fs)) (Ok (row_of fs, rest))
 
 -- a name, and then so many figures
 unfoldable pub field : Name → ℕ → Words → Result (Row × Words) Expected
 field name wanted ws = named name ws >>= figures name wanted
 
 unfoldable pub single : Name → Words → Result (ℕ × Words) Expected
-single name ws = field name 1 ws >>= λ (row, rest). Ok (slice_index row.figures 0, rest)
+single name ws = do
+  (row, rest) ← field name 1 ws
+  Ok (slice_index row.figures 0, rest)
 
 -- nothing more
 abbrev pub ended : Words → Result (Unit {0}) Expected

@@ -29,5 +29,9 @@ market_of (w ∷ ws) = cond (bytes_eq w (codes "three")) (Ok (Three, ws)) (cond 
 
 -- `market three serial 7`
 unfoldable pub heading_of : Words → Result Heading Expected
-heading_of ws =
-    begun ws >>= λ ws. market_of ws >>= λ (market, ws). single Serial ws >>= λ (serial, ws). ended ws >>= λ _. Ok (record { market = market; serial = serial })
+heading_of ws = do
+  ws ← begun ws
+  (market, ws) ← market_of ws
+  (serial, ws) ← single Serial ws
+  _ ← ended ws
+  Ok (record { market = market; serial = serial })

@@ -52,18 +52,20 @@ abbrev pub others : Said → Expected
 others s = cond (no_calls s) StationOrCall AnyCall
 
 unfoldable pub with_heading : Said → Words → Result Said Expected
-with_heading s ws = heading_of ws >>= λ heading. Ok (record { heading = Some heading; places = s.places; notes = s.notes })
+with_heading s ws = do
+  heading ← heading_of ws
+  Ok (record { heading = Some heading; places = s.places; notes = s.notes })
 
 -- the next place's station, while there is a place
 unfoldable pub with_station : Said → Words → Result Said Expected
-with_station s ws =
-    station_of ws
-    >>= λ station. must (nat_lt (length s.places) place_limit) NoStation (Ok (record { heading = s.heading; places = s.places ++ (station ∷ []); notes = s.notes }))
+with_station s ws = do
+  station ← station_of ws
+  must (nat_lt (length s.places) place_limit) NoStation (Ok (record { heading = s.heading; places = s.places ++ (station ∷ []); notes = s.notes }))
 
 unfoldable pub with_call : Said → Market → ℕ → Words → Result Said Expected
-with_call s market line ws =
-    request_of market (others s) ws
-    >>= λ call. Ok (record { heading = s.heading; places = s.places; notes = s.notes ++ (record { line = line; call = call } ∷ []) })
+with_call s market line ws = do
+  call ← request_of market (others s) ws
+  Ok (record { heading = s.heading; places = s.places; notes = s.notes ++ (record { line = line; call = call } ∷ []) })
 
 -- a line of which something is left without its comment, once the market is known
 abbrev pub behind_heading : Said → Market → ℕ → List ℕ → Words → Result Said Expected

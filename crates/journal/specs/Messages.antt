@@ -2,6 +2,8 @@
 use Rattle.std.specs.Prelude.{ℕ, cond, List, ◌++◌, codes, decimal, ◌==◌}
 use Rattle.journal.specs.declared.expected.Expected.{Expected}
 use Rattle.journal.specs.declared.expected.Expected.TheVariants.{MarketLine, StationOrCall, AnyCall, Agreement, Field, Count, Most, FileName, End, TwoPartLimits, QuotaLimits, NoStation}
+use Rattle.agreements.specs.Limits.{contracted_limit, capacity_price_limit, energy_price_limit, quota_limit}
+use Rattle.banks.specs.Limits.{place_limit}
 use Rattle.journal.specs.Names.{name_text}
 
 abbrev pub figures_text : ℕ → List ℕ
@@ -17,6 +19,9 @@ expected_text (Count name wanted found) = codes "'" ++ (name_text name ++ (codes
 expected_text (Most name most) = codes "'" ++ (name_text name ++ (codes "' wants figures of at most " ++ decimal most))
 expected_text FileName = codes "expected a file name"
 expected_text End = codes "expected the end of the line"
-expected_text TwoPartLimits = codes "a two-part agreement has 'contracted' at most 2000000, 'capacity' at most 50000000000, 'energy' at most 100000000"
-expected_text QuotaLimits = codes "a quota has 'kwh' at most 1000000000000000, 'first' and 'second' at most 100000000"
-expected_text NoStation = codes "expected at most 32 stations"
+expected_text TwoPartLimits =
+    codes "a two-part agreement has 'contracted' at most "
+    ++ (decimal contracted_limit ++ (codes ", 'capacity' at most " ++ (decimal capacity_price_limit ++ (codes ", 'energy' at most " ++ decimal energy_price_limit))))
+expected_text QuotaLimits =
+    codes "a quota has 'kwh' at most " ++ (decimal quota_limit ++ (codes ", 'first' and 'second' at most " ++ decimal energy_price_limit))
+expected_text NoStation = codes "expected at most " ++ (decimal place_limit ++ codes " stations")

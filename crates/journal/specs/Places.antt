@@ -22,19 +22,19 @@ Gives meaning said (Err NoMemory) = Unit {0}
 
 -- `contracted 100 capacity 20000 energy 50000`
 unfoldable pub two_part_of : Words → Result (Figures × Words) Expected
-two_part_of ws =
-    single Contracted ws
-    >>= λ (contracted, ws). single Capacity ws
-    >>= λ (capacity, ws). single Energy ws
-    >>= λ (energy, ws). Ok (TwoPart contracted capacity energy, ws)
+two_part_of ws = do
+  (contracted, ws) ← single Contracted ws
+  (capacity, ws) ← single Capacity ws
+  (energy, ws) ← single Energy ws
+  Ok (TwoPart contracted capacity energy, ws)
 
 -- `kwh 25 first 60000 second 40000`
 unfoldable pub quota_of : Words → Result (Figures × Words) Expected
-quota_of ws =
-    single Kwh ws
-    >>= λ (kwh, ws). single First ws
-    >>= λ (first, ws). single Second ws
-    >>= λ (second, ws). Ok (Quota kwh first second, ws)
+quota_of ws = do
+  (kwh, ws) ← single Kwh ws
+  (first, ws) ← single First ws
+  (second, ws) ← single Second ws
+  Ok (Quota kwh first second, ws)
 
 unfoldable pub figures_of : Words → Result (Figures × Words) Expected
 figures_of [] = Err Agreement
@@ -56,7 +56,7 @@ limits (Quota left first second) = QuotaLimits
 
 -- what a station means whose line goes on with these words
 unfoldable pub station_of : Words → Result Meaning Expected
-station_of ws =
-    figures_of ws
-    >>= λ (figures, ws). layers [] ws
-    >>= λ factors. must (figures_fit figures) (limits figures) (Ok (layered factors (figured figures)))
+station_of ws = do
+  (figures, ws) ← figures_of ws
+  factors ← layers [] ws
+  must (figures_fit figures) (limits figures) (Ok (layered factors (figured figures)))

@@ -3,6 +3,8 @@ ghost use Rattle.std.specs.Prelude.{◌++◌, Some, codes, decimal};
 ghost use Rattle.journal.specs.Messages.{expected_text, figures_text};
 
 use crate::expected::Expected;
+use agreements::limits::{CAPACITY_PRICE_LIMIT, CONTRACTED_LIMIT, ENERGY_PRICE_LIMIT, QUOTA_LIMIT};
+use metering::PLACES;
 use std::fmt;
 
 // The first line, counted from 1, that cannot be read, and what was expected there.
@@ -63,13 +65,27 @@ impl fmt::Display for Expected {
             Expected::Most { name, most } => write!(f, "'{name}' wants figures of at most {most}"),
             Expected::FileName => f.write_str("expected a file name"),
             Expected::End => f.write_str("expected the end of the line"),
-            Expected::TwoPartLimits => f.write_str(
-                "a two-part agreement has 'contracted' at most 2000000, 'capacity' at most 50000000000, 'energy' at most 100000000",
-            ),
-            Expected::QuotaLimits => f.write_str(
-                "a quota has 'kwh' at most 1000000000000000, 'first' and 'second' at most 100000000",
-            ),
-            Expected::NoStation => f.write_str("expected at most 32 stations"),
+            Expected::TwoPartLimits => {
+                let contracted = CONTRACTED_LIMIT;
+                let capacity = CAPACITY_PRICE_LIMIT;
+                let energy = ENERGY_PRICE_LIMIT;
+                write!(
+                    f,
+                    "a two-part agreement has 'contracted' at most {contracted}, 'capacity' at most {capacity}, 'energy' at most {energy}"
+                )
+            }
+            Expected::QuotaLimits => {
+                let quota = QUOTA_LIMIT;
+                let energy = ENERGY_PRICE_LIMIT;
+                write!(
+                    f,
+                    "a quota has 'kwh' at most {quota}, 'first' and 'second' at most {energy}"
+                )
+            }
+            Expected::NoStation => {
+                let places = PLACES;
+                write!(f, "expected at most {places} stations")
+            }
         }
     }
 }

@@ -1,0 +1,3 @@
+pub mod Tallying
+pub mod Telling
+pub mod Stating

@@ -1,0 +1,80 @@
+-- What the answers to a list of calls add up to, one call after another.
+use Rattle.std.specs.Prelude.{ℕ, ◌+◌, ◌-◌, cond, ◌&&◌, List, [], ◌∷◌, replicate, pos, ◌+ℤ◌, nat_le, slice_index, slice_set}
+use Rattle.arith.specs.Months.{share as month-share}
+use Rattle.accounts.specs.declared.sheet.Sheet.{Sheet}
+use Rattle.accounts.specs.Sums.{sum_to}
+use Rattle.tariffs.specs.declared.row.Row.{Row}
+use Rattle.settlement.specs.Law.{bills_on}
+use Rattle.orders.specs.Limits.{place_limit}
+use Rattle.history.specs.declared.call.Call.{Call}
+use Rattle.history.specs.declared.call.Call.TheVariants.{Year, Tariff, Meter, Deliver, Close, Draw, Present}
+use Rattle.history.specs.declared.answer.Answer.{Answer}
+use Rattle.history.specs.declared.answer.Answer.TheVariants.{Accepted, Metered, Closed, Drawn, Paid, Refused, Returned, Absent}
+use Rattle.statement.specs.declared.tally.Tally.{Tally}
+
+-- before any call
+abbrev pub nothing : Tally
+nothing =
+    record { bills = 0; margins = pos 0; unsettled = 0; dues = 0; shares = 0; yearly = replicate 3 0; given = replicate place_limit 0; released = replicate place_limit 0 }
+
+-- so much more at a place, which counts from 1; nothing where there is no such place
+abbrev pub more_at : List ℕ → ℕ → ℕ → List ℕ
+more_at xs place n =
+    cond (nat_le 1 place && nat_le place place_limit) (slice_set xs (place - 1) (slice_index xs (place - 1) + n)) xs
+
+-- a year is filed
+abbrev pub with_year : Row → Tally → Tally
+with_year given t =
+    record { bills = t.bills; margins = t.margins; unsettled = t.unsettled; dues = t.dues; shares = t.shares; yearly = slice_index given.figures 0 ∷ slice_index given.figures 1 ∷ slice_index given.figures 2 ∷ []; given = t.given; released = t.released }
+
+-- a reading has its dues
+abbrev pub with_dues : ℕ → ℕ → Tally → Tally
+with_dues place n t =
+    record { bills = t.bills; margins = t.margins; unsettled = t.unsettled + n; dues = t.dues; shares = t.shares; yearly = t.yearly; given = more_at t.given place n; released = t.released }
+
+-- a month is closed: its shares are those of the year in force
+abbrev pub with_sheet : ℕ → Sheet → Tally → Tally
+with_sheet revenues s t =
+    record { bills = t.bills + bills_on s; margins = t.margins +ℤ s.margin; unsettled = 0; dues = t.dues + t.unsettled; shares = t.shares + sum_to (λ j. month-share (slice_index t.yearly j) s.month) revenues; yearly = t.yearly; given = t.given; released = t.released }
+
+-- an order is released
+abbrev pub with_payment : ℕ → ℕ → Tally → Tally
+with_payment place cents t =
+    record { bills = t.bills; margins = t.margins; unsettled = t.unsettled; dues = t.dues; shares = t.shares; yearly = t.yearly; given = t.given; released = more_at t.released place cents }
+
+-- an accepted call that says no more than that
+abbrev pub with_accepted : Call → Tally → Tally
+with_accepted (Year given) t = with_year given t
+with_accepted (Tariff given) t = t
+with_accepted (Meter given) t = t
+with_accepted (Deliver given) t = t
+with_accepted (Close stated) t = t
+with_accepted (Draw place) t = t
+with_accepted (Present how which) t = t
+
+-- a call whose answer tells dues
+abbrev pub with_metered : Call → ℕ → Tally → Tally
+with_metered (Year given) n t = t
+with_metered (Tariff given) n t = t
+with_metered (Meter given) n t = with_dues given.number n t
+with_metered (Deliver given) n t = t
+with_metered (Close stated) n t = t
+with_metered (Draw place) n t = t
+with_metered (Present how which) n t = t
+
+-- after one call more
+abbrev pub taken : ℕ → Call → Answer → Tally → Tally
+taken revenues c Accepted t = with_accepted c t
+taken revenues c (Metered n) t = with_metered c n t
+taken revenues c (Closed s) t = with_sheet revenues s t
+taken revenues c (Drawn place cents) t = t
+taken revenues c (Paid place cents) t = with_payment place cents t
+taken revenues c (Refused why) t = t
+taken revenues c Returned t = t
+taken revenues c Absent t = t
+
+-- after all of them
+unfoldable pub tallied : ℕ → List Call → List Answer → Tally → Tally
+tallied revenues [] answers t = t
+tallied revenues (c ∷ cs) [] t = t
+tallied revenues (c ∷ cs) (a ∷ answers) t = tallied revenues cs answers (taken revenues c a t)

@@ -1,0 +1,11 @@
+// The statement at the end of a list of calls: every term of the account and both its sums, and the money of each place.
+#![tactic(auto)]
+
+pub mod account;
+pub mod money;
+pub mod statement;
+pub mod tally;
+
+pub use account::Account;
+pub use money::PlaceMoney;
+pub use statement::Statement;
