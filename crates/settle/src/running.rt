@@ -1,7 +1,8 @@
 // Performing a journal's calls.
 use crate::failure::Failure;
 use crate::opening::List;
-use crate::printing::print_performance;
+use crate::printing::{print_books, print_lines};
+use banks::Bank;
 use history::{Orders, Performance, Unperformed, perform};
 use methodology::Methodology;
 use stations::Stations;
@@ -23,6 +24,17 @@ fn perform_calls<M: Methodology + Drop>(
     }
 }
 
+// Prints the lines and then the books.
+fn print_all<M: Methodology>(
+    rt: &HostRuntime,
+    list: &List,
+    performance: &Performance<Stations, M>,
+    places: u8,
+) -> Result<(), Failure> {
+    print_lines(rt, list, performance)?;
+    print_books(rt, list, performance, places)
+}
+
 // Performs the calls, prints what came of them, and has the orders that are still in hand held.
 pub fn perform_list<M: Methodology + Drop>(
     rt: &HostRuntime,
@@ -31,10 +43,11 @@ pub fn perform_list<M: Methodology + Drop>(
     serial: u64,
     list: &List,
 ) -> Result<(), Failure> {
+    let places = stations.places();
     let Ok(performance) = perform_calls(rt.alloc(), market, stations, serial, list) else {
         return Err(Failure::from(AllocError));
     };
-    let printed = print_performance(rt, list, &performance);
+    let printed = print_all(rt, list, &performance, places);
     let (_house, _answers) = performance.hold_all();
     printed
 }
