@@ -1,5 +1,5 @@
 // The words of a line, one after another.
-ghost use Rattle.std.specs.Prelude.{◌≡◌, ◌^◌, ◌<◌, ◌∷◌, [], length, MatchOption};
+ghost use Rattle.std.specs.Prelude.{◌≡◌, ◌∷◌, [], MatchOption};
 ghost use Rattle.words.specs.Pieces.{bare, words, left};
 
 use crate::pieces::{next_word, without_comment};
@@ -22,8 +22,7 @@ impl<'a> Words<'a> {
 
     // Takes the next word, if there is one.
     pub fn next(&mut self) -> Option<&'a [u8]>
-        ensures first { MatchOption result (left self.old ≡ []) (λ word. left self.old ≡ word.now ∷ left self.new) }
-        ensures few { length (left self.old) < 2 ^ 64 }
+        ensures { MatchOption result (left self.old ≡ []) (λ word. left self.old ≡ word.now ∷ left self.new) }
     {
         let (word, behind) = next_word(self.rest);
         if word.is_empty() {

@@ -5,12 +5,12 @@ use Rattle.journal.proofs.field.named.Goals as goal
 
 pub returns-in_default : goal.returns-in_default
 unfolding named
-returns-in_default c = ap (named c.args.name) (rw c.in_default.is at c.next.ensures.first)
+returns-in_default c = ap (named c.args.name) (rw c.in_default.is at c.next.ensures)
 
 pub returns-then-is : goal.returns-then-is
 unfolding named
-returns-then-is c = ap (named c.args.name) c.in-Some.ensures.first ∙ cond-true _ _ _ (sym c.if-is.ensures)
+returns-then-is c = ap (named c.args.name) c.in-Some.ensures ∙ cond-true _ _ _ (sym c.if-is.ensures)
 
 pub returns-else-is : goal.returns-else-is
 unfolding named
-returns-else-is c = ap (named c.args.name) c.in-Some.ensures.first ∙ cond-false _ _ _ (sym c.if-is.ensures)
+returns-else-is c = ap (named c.args.name) c.in-Some.ensures ∙ cond-false _ _ _ (sym c.if-is.ensures)
