@@ -51,11 +51,18 @@ pub fn open_all(
 }
 
 fn open(rt: &HostRuntime, source: Source<'_>, entry: &Entry<'_>) -> Result<Opened, Failure> {
+    let line = entry.line;
     let call = match entry.request {
         Request::Year(revenues) => Call::Year(revenues),
         Request::Tariff(filing) => Call::Tariff(filing),
-        Request::Meter(name) => return open_meter(rt, source, entry.line, name, Verb::Meter),
-        Request::Deliver(name) => return open_meter(rt, source, entry.line, name, Verb::Deliver),
+        Request::Meter(name) => match read_meter(rt, source, line, name)? {
+            Ok(reading) => Call::Meter(reading),
+            Err(refusal) => return Ok(refused(Verb::Meter, refusal)),
+        },
+        Request::Deliver(name) => match read_meter(rt, source, line, name)? {
+            Ok(reading) => Call::Deliver(reading),
+            Err(refusal) => return Ok(refused(Verb::Deliver, refusal)),
+        },
         Request::Close {
             readings,
             deliveries,
@@ -70,26 +77,21 @@ fn open(rt: &HostRuntime, source: Source<'_>, entry: &Entry<'_>) -> Result<Opene
     Ok(Opened::Call(call))
 }
 
-// Reads the meter file that a line names.
-fn open_meter(
+fn refused(verb: Verb, refusal: Refusal) -> Opened {
+    Opened::Refused(RefusedFile { verb, refusal })
+}
+
+// The reading of a meter file that a line names, or the file's refusal.
+fn read_meter(
     rt: &HostRuntime,
     source: Source<'_>,
     line: usize,
     name: &[u8],
-    verb: Verb,
-) -> Result<Opened, Failure> {
+) -> Result<Result<Reading, Refusal>, Failure> {
     let bytes = source.read_beside(rt, line, name)?;
     let mut reading = Reading::empty();
     match read_file(bytes.as_slice(), &mut reading) {
-        Ok(()) => Ok(Opened::Call(called(verb, reading))),
-        Err(refusal) => Ok(Opened::Refused(RefusedFile { verb, refusal })),
-    }
-}
-
-// The call that takes a reading.
-fn called(verb: Verb, reading: Reading) -> Call {
-    match verb {
-        Verb::Deliver => Call::Deliver(reading),
-        _ => Call::Meter(reading),
+        Ok(()) => Ok(Ok(reading)),
+        Err(refusal) => Ok(Err(refusal)),
     }
 }
