@@ -1,0 +1,92 @@
+// settle: reads an operator's journal, performs its calls and prints what came of each.
+#![tactic(auto)]
+
+mod arguments;
+mod counted;
+mod failure;
+mod opening;
+mod printing;
+mod running;
+mod source;
+
+use crate::arguments::{Command, USAGE, asked};
+use crate::counted::Counted;
+use crate::failure::Failure;
+use crate::opening::open_all;
+use crate::running::perform_list;
+use crate::source::{Source, read_text};
+use banks::Bank;
+use journal::{Journal, Market};
+use methodology::{ThreeIntervals, TwoIntervals};
+use std::env;
+use std::process::ExitCode;
+
+fn main(rt: HostRuntime) -> ExitCode {
+    match start(&rt) {
+        Ok(()) => ExitCode::SUCCESS,
+        Err(failure) => {
+            failure.tell(&rt);
+            ExitCode::FAILURE
+        }
+    }
+}
+
+fn start(rt: &HostRuntime) -> Result<(), Failure> {
+    let mut args = env::args(rt)?;
+    let _ = args.next();
+    let words: Vec<String> = args.collect(rt.alloc())?;
+    match asked(words.as_slice()) {
+        Command::Run(path) => run(rt, path),
+        Command::Check(path) => check(rt, path),
+        Command::Help => {
+            print!(rt; "{USAGE}")?;
+            Ok(())
+        }
+        Command::Unknown => {
+            eprint!(rt; "{USAGE}")?;
+            Err(Failure::Told)
+        }
+    }
+}
+
+// Performs a journal's calls and prints what came of each. The whole journal is read and its meter files are opened
+// before the first call.
+fn run(rt: &HostRuntime, path: &str) -> Result<(), Failure> {
+    let text = read_text(rt, path)?;
+    let source = Source {
+        path,
+        text: text.as_str(),
+    };
+    let Journal {
+        market,
+        serial,
+        stations,
+        entries,
+    } = source.journal(rt)?;
+    let list = open_all(rt, source, &entries)?;
+    match market {
+        Market::Three => perform_list(rt, ThreeIntervals, stations, serial, &list),
+        Market::Two => perform_list(rt, TwoIntervals, stations, serial, &list),
+    }
+}
+
+// Says whether a journal can be read and its meter files opened. No call is performed.
+fn check(rt: &HostRuntime, path: &str) -> Result<(), Failure> {
+    let text = read_text(rt, path)?;
+    let source = Source {
+        path,
+        text: text.as_str(),
+    };
+    let journal = source.journal(rt)?;
+    let list = open_all(rt, source, &journal.entries)?;
+    let stations = Counted {
+        count: usize::from(journal.stations.places()),
+        noun: "station",
+    };
+    let calls = Counted {
+        count: list.entries.len(),
+        noun: "call",
+    };
+    println!(rt; "{path}: {stations}, {calls}")?;
+    Ok(())
+}

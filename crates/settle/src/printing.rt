@@ -1,0 +1,67 @@
+// Printing what came of a list of calls: a line for each entry, the sheets of the closings, and at the end the books.
+use crate::failure::Failure;
+use crate::opening::List;
+use history::{Answer, Call, Performance};
+use methodology::Methodology;
+use printout::Printer;
+use sheet::{TEXT_LIMIT, write_sheet};
+use statement::statement::making::statement as statement_of;
+use stations::Stations;
+use std::io::Write;
+
+// Prints the line of each entry, in the order of the journal.
+pub fn print_lines<M: Methodology>(
+    rt: &HostRuntime,
+    list: &List,
+    performance: &Performance<Stations, M>,
+) -> Result<(), Failure> {
+    let mut printer = Printer::new();
+    let mut performed = list.calls.iter().zip(performance.answers.iter());
+    for entry in &list.entries {
+        if let Some(file) = entry {
+            let line = printer.file_line(file.verb, file.refusal);
+            println!(rt; "{line}")?;
+        } else if let Some((call, answer)) = performed.next() {
+            print_call(rt, &mut printer, call, answer)?;
+        }
+    }
+    Ok(())
+}
+
+// Prints a call's line, and under an accepted closing the sheet.
+fn print_call(
+    rt: &HostRuntime,
+    printer: &mut Printer,
+    call: &Call,
+    answer: &Answer,
+) -> Result<(), Failure> {
+    let line = printer.line(call, answer);
+    println!(rt; "{line}")?;
+    let Answer::Closed(sheet) = answer else {
+        return Ok(());
+    };
+    let mut buffer = [0; TEXT_LIMIT];
+    if let Ok(size) = write_sheet(sheet, &mut buffer) {
+        rt.stdout().write_all(&buffer[..size])?;
+    }
+    Ok(())
+}
+
+// Prints the books: the account over the closed months, and the money of each of the market's places.
+pub fn print_books<M: Methodology>(
+    rt: &HostRuntime,
+    list: &List,
+    performance: &Performance<Stations, M>,
+    places: u8,
+) -> Result<(), Failure> {
+    let Some(books) = statement_of(&list.calls, performance) else {
+        eprintln!(rt; "settle: there are too many calls to be added up")?;
+        return Err(Failure::Told);
+    };
+    let account = books.account;
+    println!(rt; "{account}")?;
+    for (place, money) in (1..=places).zip(books.places.iter()) {
+        println!(rt; "place {place} {money}")?;
+    }
+    Ok(())
+}
