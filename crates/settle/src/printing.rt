@@ -5,7 +5,7 @@ use history::{Answer, Call, Performance};
 use methodology::Methodology;
 use printout::Printer;
 use sheet::{TEXT_LIMIT, write_sheet};
-use statement::statement::making::statement as statement_of;
+use statement::statement;
 use stations::Stations;
 use std::io::Write;
 
@@ -54,7 +54,7 @@ pub fn print_books<M: Methodology>(
     performance: &Performance<Stations, M>,
     places: u8,
 ) -> Result<(), Failure> {
-    let Some(books) = statement_of(&list.calls, performance) else {
+    let Some(books) = statement(&list.calls, performance) else {
         eprintln!(rt; "settle: there are too many calls to be added up")?;
         return Err(Failure::Told);
     };

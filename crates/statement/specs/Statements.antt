@@ -22,7 +22,7 @@ use Rattle.history.specs.Histories.{Performed}
 use Rattle.statement.specs.Totals.{covered_by, costs_by}
 use Rattle.statement.specs.declared.account.Account.{Account}
 use Rattle.statement.specs.declared.money.PlaceMoney.{PlaceMoney}
-use Rattle.statement.specs.declared.statement.Statement.{Statement}
+use Rattle.statement.specs.declared.stated.Statement.{Statement}
 
 abbrev pub no_money : PlaceMoney
 no_money = record { released = 0; in_hand = 0; standing = 0; terms = 0; modest = lit≤ tt }

@@ -3,9 +3,10 @@
 
 pub mod account;
 pub mod money;
-pub mod statement;
+pub mod stated;
 pub mod tally;
 
 pub use account::Account;
 pub use money::PlaceMoney;
-pub use statement::Statement;
+pub use stated::Statement;
+pub use stated::making::statement;

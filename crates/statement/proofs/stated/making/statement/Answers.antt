@@ -6,7 +6,7 @@ use Rattle.statement.specs.Tallies.{nothing, tallied}
 use Rattle.statement.specs.Sums.{Sums, Holds}
 use Rattle.statement.specs.Statements.{no_money}
 use Rattle.statement.proofs.Stating.{stated}
-use Rattle.statement.proofs.statement.making.statement.Goals as goal
+use Rattle.statement.proofs.stated.making.statement.Goals as goal
 
 pub returns-clause-stated : goal.returns-clause-stated
 returns-clause-stated g c market row serial others =

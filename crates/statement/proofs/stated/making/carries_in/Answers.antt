@@ -2,7 +2,7 @@ use Rattle.std.proofs.Common.{◌≡◌, get_or, sym, arith, rules}
 use Rattle.std.proofs.lemmas.List.{get_or_read}
 use Rattle.accounts.specs.Books.{account_at}
 use Rattle.accounts.proofs.Sums.{sum_none, sum_next}
-use Rattle.statement.proofs.statement.making.carries_in.Goals as goal
+use Rattle.statement.proofs.stated.making.carries_in.Goals as goal
 
 pub loop-k-init : goal.loop-k-init
 loop-k-init c = (sym (sum_none (λ k. (account_at c.args.books.now k).carry)), omega arith)

@@ -3,7 +3,7 @@ use Rattle.std.proofs.lemmas.List.{get_or_read}
 use Rattle.std.proofs.lemmas.Int.{ints}
 use Rattle.accounts.specs.Books.{account_at}
 use Rattle.accounts.proofs.Sums.{sumℤ_none, sumℤ_next}
-use Rattle.statement.proofs.statement.making.balances_in.Goals as goal
+use Rattle.statement.proofs.stated.making.balances_in.Goals as goal
 
 pub loop-k-init : goal.loop-k-init
 loop-k-init c = (sym (sumℤ_none (λ k. (account_at c.args.books.now k).balance)), omega arith)

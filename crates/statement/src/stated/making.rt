@@ -14,7 +14,7 @@ ghost use Rattle.statement.specs.Statements.{no_money, Stated};
 
 use crate::account::Account;
 use crate::money::PlaceMoney;
-use crate::statement::Statement;
+use crate::stated::Statement;
 use crate::tally::Tally;
 use accounts::{Books, LICENSEES, PLACES};
 use banks::Bank;

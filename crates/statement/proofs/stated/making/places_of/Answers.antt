@@ -3,7 +3,7 @@ use Rattle.accounts.proofs.Sums.{filled_so}
 use Rattle.statement.specs.Sums.{Holds}
 use Rattle.statement.specs.Statements.{no_money}
 use Rattle.statement.specs.declared.money.PlaceMoney.{PlaceMoney}
-use Rattle.statement.proofs.statement.making.places_of.Goals as goal
+use Rattle.statement.proofs.stated.making.places_of.Goals as goal
 
 pub loop-k-preserved : goal.loop-k-preserved
 loop-k-preserved c =
