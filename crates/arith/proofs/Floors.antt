@@ -1,8 +1,6 @@
 -- The floor of a quotient of integers is one number.
-use Rattle.std.proofs.Common.{◌≡◌, ℕ, zero, suc, ◌*◌, ◌/◌, ◌<◌, ◌≤◌, ℤ, pos, negsuc, ◌+ℤ◌, ◌*ℤ◌, neg_ℤ, Ok, sym, refl, ap, suc-mul, add-mul, zero-mul, div-le_self, arith}
+use Rattle.std.proofs.Common.{◌≡◌, ℕ, zero, suc, ◌*◌, ◌/◌, ◌<◌, ℤ, pos, negsuc, ◌+ℤ◌, ◌*ℤ◌, neg_ℤ, Ok, sym, refl, ap, suc-mul, add-mul, zero-mul, arith}
 use native.Mathlib.Nat.{div-eq_of_lt-le, div-eq_of_lt}
-use lib.Signed.{mag}
-use Rattle.std.specs.Int.{int_div_euclid}
 use Rattle.std.proofs.lemmas.Nat.{div-add-mod', mod_below}
 use Rattle.std.proofs.lemmas.Int.{ints}
 use Rattle.arith.specs.Division.{Floor, floor, floor_of, AroundZero}
@@ -45,12 +43,3 @@ answer_only n q (suc d) f = ap Ok (sym (floor_only n q (suc d) (omega arith) f))
 
 pub around_zero : AroundZero
 around_zero n d h = (ap pos (div-eq_of_lt h), ap negsuc (div-eq_of_lt h))
-
-pub euclid_floor : (z : ℤ) (d : ℕ) → int_div_euclid z (pos d) ≡ floor z d
-euclid_floor (pos a) d = refl
-euclid_floor (negsuc a) d = refl
-
--- a floor is no larger than what is divided
-pub floor_mag : (z : ℤ) (d : ℕ) → mag (floor z d) ≤ mag z
-floor_mag (pos a) d = div-le_self a d
-floor_mag (negsuc a) d = div-le_self a d

@@ -20,12 +20,6 @@ about_a_twelfth yearly (suc k) h =
     let e : suc k - 1 ≡ k = omega arith in
     rw e (omega (arith, suc-mul k yearly), omega (arith, suc-mul k yearly))
 
-pub shares_are_even : (yearly j k : ℕ) → 1 ≤ j → 1 ≤ k → (share yearly j ≤ share yearly k + 1) × (share yearly k ≤ share yearly j + 1)
-shares_are_even yearly j k hj hk =
-    let a = about_a_twelfth yearly j hj in
-    let b = about_a_twelfth yearly k hk in
-    (omega (arith, a, b), omega (arith, a, b))
-
 -- a share by the parts of the year that divide evenly and those that do not
 pub share_by_parts : (yearly each odd k : ℕ) → yearly ≡ each * 12 + odd → 1 ≤ k → share yearly k ≡ each + k * odd / 12 - (k - 1) * odd / 12
 share_by_parts yearly each odd zero e h = absurd (omega arith)
@@ -33,13 +27,6 @@ share_by_parts yearly each odd (suc k) e h =
     let p : suc k - 1 ≡ k = omega arith in
     let m : k * yearly ≡ 12 * (k * each) + k * odd = ap (λ y. k * y) e ∙ mul-add k (each * 12) odd ∙ omega (arith, mul_assoc k each 12) in
     rw p (omega (arith, suc-mul k yearly, suc-mul k odd))
-
--- a month more has no fewer odd cents
-pub more_odd : (odd k : ℕ) → (k - 1) * odd / 12 ≤ k * odd / 12
-more_odd odd zero = omega arith
-more_odd odd (suc k) =
-    let p : suc k - 1 ≡ k = omega arith in
-    rw p (omega (arith, suc-mul k odd))
 
 pub month_none : (yearly k : ℕ) → k ≡ 0 → 0 ≡ share yearly k
 month_none yearly zero e = omega arith

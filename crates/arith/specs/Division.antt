@@ -8,10 +8,14 @@ pub record Split (step amount quantity rate carry : ℕ) : Type 0 where
   pub whole : amount ≡ rate * quantity + carry
   pub rest : carry < step * quantity
 
+-- The answer of a split by its two parts: there is none over a quantity of 0.
+abbrev pub split_by : {A : Type 0} → (A → ℕ → A × ℕ) → A → ℕ → Result (A × ℕ) NoQuantity
+split_by parts amount zero = Err (record {})
+split_by parts amount (suc n) = Ok (parts amount (suc n))
+
 -- The answer of a split in steps of 1.
 abbrev pub split_of : ℕ → ℕ → Result (ℕ × ℕ) NoQuantity
-split_of amount zero = Err (record {})
-split_of amount (suc n) = Ok (amount / suc n, amount % suc n)
+split_of = split_by (λ amount quantity. (amount / quantity, amount % quantity))
 
 -- q is the largest number with q * d ≤ n.
 pub record Floor (n : ℤ) (d : ℕ) (q : ℤ) : Type 0 where

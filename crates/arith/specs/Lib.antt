@@ -2,3 +2,4 @@ pub mod Division
 pub mod Scaling
 pub mod Months
 pub mod Interest
+pub mod Splits

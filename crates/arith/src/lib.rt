@@ -1,19 +1,18 @@
 // Arithmetic of the settlement house: a division that answers both numbers, floors of signed numbers, scaling, month shares.
 #![tactic(auto)]
 
+mod amount;
 pub mod division;
 pub mod interest;
 pub mod months;
 pub mod quantity;
 pub mod scaling;
-pub mod wide;
 
 pub use division::{floor_div, split};
 pub use interest::adjustment;
 pub use months::month_share;
 pub use quantity::NoQuantity;
 pub use scaling::{scale_ppm, scale_ppm_signed, scale_thousandths};
-pub use wide::split_wide;
 
 #[cfg(test)]
 mod tests {
@@ -21,9 +20,10 @@ mod tests {
 
     #[test]
     fn a_split_keeps_the_whole_amount(rt: HostRuntime) {
-        assert_eq!(rt; split(2_000_000, 90), Ok((22_222, 20)));
-        assert_eq!(rt; split(89, 90), Ok((0, 89)));
-        assert_eq!(rt; split(5, 0), Err(NoQuantity));
+        assert_eq!(rt; split(2_000_000_u64, 90), Ok((22_222, 20)));
+        assert_eq!(rt; split(89_u64, 90), Ok((0, 89)));
+        assert_eq!(rt; split(5_u64, 0), Err(NoQuantity));
+        assert_eq!(rt; split(2_000_000_u128, 90), Ok((22_222, 20)));
     }
 
     #[test]

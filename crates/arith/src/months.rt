@@ -27,5 +27,5 @@ fn odd_cents(odd: u64, month: u8) -> u64
     ensures value { result ≡ month * odd / months_of_year }
     ensures few { result ≤ month }
 {
-    month as u64 * odd / MONTHS
+    u64::from(month) * odd / MONTHS
 }

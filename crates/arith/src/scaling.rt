@@ -15,16 +15,17 @@ pub fn scale_ppm(x: u64, ppm: u32) -> u128
     ensures rounded { Rounded (x * (whole_ppm + ppm)) whole_ppm result }
     ensures grown { (x ≤ result) × ((ppm ≤ whole_ppm → result ≤ 2 * x)) }
 {
-    x as u128 * (WHOLE_PPM as u128 + ppm as u128) / WHOLE_PPM as u128
+    u128::from(x) * (u128::from(WHOLE_PPM) + u128::from(ppm)) / u128::from(WHOLE_PPM)
 }
 
-// The same of a signed number, rounded towards minus infinity.
+// The same of a signed number, rounded towards minus infinity. It stands beside `scale_ppm`, since no trait of std has `div_euclid`:
+// a trait for the two would have these two bodies as its impls, and a member for each of the definitions that their clauses name.
 pub fn scale_ppm_signed(x: i64, ppm: u32) -> i128
     ensures value { result ≡ more_by_signed ppm x }
     ensures floored { Floor (x *ℤ pos (whole_ppm + ppm)) whole_ppm result }
     ensures grown { (unsigned_abs x ≤ unsigned_abs result) × ((ppm ≤ whole_ppm → unsigned_abs result ≤ 2 * unsigned_abs x)) }
 {
-    (x as i128 * (WHOLE_PPM as i128 + ppm as i128)).div_euclid(WHOLE_PPM as i128)
+    (i128::from(x) * (i128::from(WHOLE_PPM) + i128::from(ppm))).div_euclid(i128::from(WHOLE_PPM))
 }
 
 // c thousandths of x, rounded down.
@@ -33,5 +34,5 @@ pub fn scale_thousandths(x: u64, c: u32) -> u128
     ensures rounded { Rounded (x * c) whole_thousandths result }
     ensures most { (times : ℕ) → c ≤ times * whole_thousandths → result ≤ times * x }
 {
-    x as u128 * c as u128 / WHOLE_THOUSANDTHS as u128
+    u128::from(x) * u128::from(c) / u128::from(WHOLE_THOUSANDTHS)
 }

@@ -7,7 +7,7 @@ ghost use Rattle.settlement.specs.Closing.{quantity_in};
 ghost use Rattle.closing.specs.Limits.{difference_limit};
 
 use accounts::{Delivery, LICENSEES, Month};
-use arith::split_wide;
+use arith::split;
 
 // What a licensee took under a head.
 pub fn taken_by(licensee: &Option<Delivery>, k: usize) -> u64
@@ -40,7 +40,7 @@ pub fn divided(amount: u128, quantity: u64) -> (u128, u64)
     ensures rate { result.0 ≡ amount / quantity }
     ensures rest { result.1 ≡ amount % quantity }
 {
-    split_wide(amount, quantity).unwrap()
+    split(amount, quantity).unwrap()
 }
 
 // A quantity times what the actual rate is over the published one.

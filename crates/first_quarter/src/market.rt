@@ -21,7 +21,7 @@ pub fn stations() -> anyhow::Result<Stations> {
 
 // What a meter measured: kW, and kWh by night, in the morning and in the evening.
 fn reading(kind: Kind, number: u8, demand: u32, energies: [u32; 3]) -> anyhow::Result<Reading> {
-    let Ok(reading) = measured(kind, number, demand, energies[0], energies[1], energies[2]) else {
+    let Ok(reading) = measured(kind, number, demand, energies) else {
         return Err(anyhow!("these figures make no reading"));
     };
     Ok(reading)

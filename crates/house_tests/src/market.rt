@@ -26,7 +26,7 @@ pub fn metered(kind: Kind, number: u32, demand: u32, blocks: [u32; BLOCKS]) -> R
 
 // What a meter measured: kW, and kWh at 01:00, 06:00 and 19:00.
 pub fn reading_of(kind: Kind, number: u8, demand: u32, energies: [u32; 3]) -> Reading {
-    match worked_figures::measured(kind, number, demand, energies[0], energies[1], energies[2]) {
+    match worked_figures::measured(kind, number, demand, energies) {
         Ok(reading) => reading,
         Err(_) => Reading::empty(),
     }

@@ -38,11 +38,7 @@ impl Head {
     pub fn is_demand(self) -> bool
         ensures { result ≡ by_demand self }
     {
-        match self {
-            Head::Generation => true,
-            Head::Revenue(_) => true,
-            Head::Interval(_) => false,
-        }
+        matches!(self, Head::Generation | Head::Revenue(_))
     }
 
     // Most that a rate of this head may be, grains per kW or per kWh.

@@ -16,15 +16,25 @@ pub trait Methodology {
     // How many intervals its day has.
     const INTERVALS: usize;
 
-    // The two counts, for clauses, which cannot cite the constants.
+    ghost REVENUES: { ℕ };
+
+    ghost INTERVALS: { ℕ };
+
+    // The two counts, within the limits of a shape.
     ghost shape: { Shape };
 
     ghost meaning: { Self → Meaning };
 
-    // The two constants. An implementation writes `Shape { revenues: Self::REVENUES, intervals: Self::INTERVALS }`.
+    // The two counts.
     fn shape() -> Shape
         ensures revenues { result.revenues ≡ shape.revenues }
-        ensures intervals { result.intervals ≡ shape.intervals };
+        ensures intervals { result.intervals ≡ shape.intervals }
+    {
+        Shape {
+            revenues: Self::REVENUES,
+            intervals: Self::INTERVALS,
+        }
+    }
 
     // The interval of a block, counted from 1.
     fn interval_of(&self, block: usize) -> usize
@@ -33,6 +43,8 @@ pub trait Methodology {
     // The supply of an interval that its price may cover, kWh: by the energy sent in and delivered, kWh, and the filed loss factor, ppm.
     fn allowed_supply(&self, sent: u64, delivered: u64, factor: u32) -> u64
         ensures { sent ≤ supply_limit → delivered ≤ supply_limit → factor ≤ factor_limit → result ≡ (meaning self.now).allowed sent delivered factor };
+
+    ghost counted: { (REVENUES ≡ shape.revenues) × (INTERVALS ≡ shape.intervals) };
 
     ghost placed: { (m : Self) (block : ℕ) → block < block_count → UpTo shape.intervals ((meaning m).interval block) };
 

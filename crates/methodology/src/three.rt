@@ -1,11 +1,10 @@
 // Three intervals, after the methodology of Sri Lanka's regulator (PUCSL, January 2021).
-ghost use Rattle.std.specs.Prelude.{◌≡◌, ◌<◌};
+ghost use Rattle.std.specs.Prelude.{◌≡◌, ◌<◌, refl};
 ghost use Rattle.metering.specs.Limits.{block_count};
 ghost use Rattle.methodology.specs.Markets.{begins, three_shape, three_meaning, three_by_the_clock};
 ghost use Rattle.std.proofs.Common.{rules};
 
 use crate::rules::Methodology;
-use crate::shape::Shape;
 
 const DAY: usize = 1;
 
@@ -22,20 +21,19 @@ impl Methodology for ThreeIntervals {
 
     const INTERVALS: usize = 3;
 
+    ghost REVENUES = { 2 };
+
+    ghost INTERVALS = { 3 };
+
     ghost shape = { three_shape };
 
     ghost meaning = { λ _. three_meaning };
 
+    ghost counted = { (refl, refl) };
+
     ghost placed = { Prim.search rules };
 
     ghost supplied = { Prim.search rules };
-
-    fn shape() -> Shape {
-        Shape {
-            revenues: Self::REVENUES,
-            intervals: Self::INTERVALS,
-        }
-    }
 
     // Block 11 begins at 05:30, block 37 at 18:30, block 45 at 22:30.
     fn interval_of(&self, block: usize) -> usize

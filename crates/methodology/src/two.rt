@@ -1,12 +1,11 @@
 // Two intervals, after the methodology of Malawi's regulator (MERA, November 2015).
-ghost use Rattle.std.specs.Prelude.{◌≡◌, ◌<◌};
+ghost use Rattle.std.specs.Prelude.{◌≡◌, ◌<◌, refl};
 ghost use Rattle.metering.specs.Limits.{block_count};
 ghost use Rattle.methodology.specs.Markets.{begins, two_shape, two_meaning, two_by_the_clock};
 ghost use Rattle.arith.proofs.Growth.{no_less, at_most_double};
 ghost use Rattle.std.proofs.Common.{rules};
 
 use crate::rules::Methodology;
-use crate::shape::Shape;
 use arith::scale_ppm;
 
 const PEAK: usize = 1;
@@ -22,20 +21,19 @@ impl Methodology for TwoIntervals {
 
     const INTERVALS: usize = 2;
 
+    ghost REVENUES = { 3 };
+
+    ghost INTERVALS = { 2 };
+
     ghost shape = { two_shape };
 
     ghost meaning = { λ _. two_meaning };
 
+    ghost counted = { (refl, refl) };
+
     ghost placed = { Prim.search rules };
 
     ghost supplied = { λ m sent delivered factor few filed ratio. (no_less delivered factor, at_most_double delivered factor filed) };
-
-    fn shape() -> Shape {
-        Shape {
-            revenues: Self::REVENUES,
-            intervals: Self::INTERVALS,
-        }
-    }
 
     // Block 34 begins at 17:00, block 42 at 21:00.
     fn interval_of(&self, block: usize) -> usize
@@ -50,6 +48,6 @@ impl Methodology for TwoIntervals {
 
     // What was delivered, and the filed losses on top.
     fn allowed_supply(&self, sent: u64, delivered: u64, factor: u32) -> u64 {
-        scale_ppm(delivered, factor).min(u64::MAX as u128) as u64
+        u64::try_from(scale_ppm(delivered, factor)).unwrap_or(u64::MAX)
     }
 }

@@ -1,13 +1,13 @@
 // A methodology unlike the house's two: no allowed revenue, five intervals, half of the losses allowed.
 #![tactic(auto)]
 
-ghost use Rattle.std.specs.Prelude.{◌≡◌, ◌+◌, ◌*◌, ◌/◌, ◌<◌};
+ghost use Rattle.std.specs.Prelude.{◌≡◌, ◌+◌, ◌*◌, ◌/◌, ◌<◌, refl};
 ghost use Rattle.metering.specs.Limits.{block_count};
 ghost use Rattle.other_methodology.specs.Fifths.{fifths_shape, fifths_meaning};
 ghost use Rattle.std.proofs.Common.{rules};
 
 use metering::BLOCKS;
-use methodology::{Methodology, Shape, head_of_block};
+use methodology::{Methodology, head_of_block};
 
 #[derive(Clone, Copy)]
 pub struct Fifths;
@@ -17,20 +17,19 @@ impl Methodology for Fifths {
 
     const INTERVALS: usize = 5;
 
+    ghost REVENUES = { 0 };
+
+    ghost INTERVALS = { 5 };
+
     ghost shape = { fifths_shape };
 
     ghost meaning = { λ _. fifths_meaning };
 
+    ghost counted = { (refl, refl) };
+
     ghost placed = { Prim.search rules };
 
     ghost supplied = { Prim.search rules };
-
-    fn shape() -> Shape {
-        Shape {
-            revenues: Self::REVENUES,
-            intervals: Self::INTERVALS,
-        }
-    }
 
     // The day in five parts.
     fn interval_of(&self, block: usize) -> usize {
@@ -61,8 +60,8 @@ mod tests {
     fn names<M: Methodology>(heap: Global) -> Result<String, AllocError> {
         let shape = M::shape();
         let mut all = String::new(heap);
-        for k in 0..shape.heads() {
-            let head = shape.head(k + 1);
+        for number in 1..=shape.heads() {
+            let head = shape.head(number);
             let name = format!(in heap; " {head}")?;
             all.push_str(&name)?;
         }

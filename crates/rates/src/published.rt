@@ -8,6 +8,7 @@ use methodology::Shape;
 pub const HEADS: usize = 6;
 
 // A tariff's rates, with the heads that they are for. What no tariff has set is 0.
+// The three tables stand side by side, since a month is billed by the first alone: the law takes that table, and not the others.
 #[derive(Clone, Copy)]
 pub struct Rates {
     pub shape: Shape,

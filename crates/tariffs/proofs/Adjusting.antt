@@ -19,19 +19,19 @@ adjusted_parts total (suc n) ppm parts some is =
     let e : parts ≡ (floor total (suc n), more_by_signed ppm (floor total (suc n))) = cc in rw e (refl, refl)
 
 -- the sum of a base rate and an adjustment, as it is computed
-abbrev pub sum_of : ℕ → ℤ → ℤ
-sum_of base adjustment = to_z w128 (of_z w128 (to_z w128 base +ℤ to_z w128 (of_z w128 adjustment)))
+abbrev pub sum_of : ℤ → ℤ → ℤ
+sum_of base adjustment = to_z w128 (of_z w128 (to_z w128 (of_z w128 base) +ℤ to_z w128 (of_z w128 adjustment)))
 
 -- a head's figures, as they are computed, tell its tests and its published rate
-pub record Tells (shape : Shape) (filing : Filing) (differences : ℤ) (number base : ℕ) (each adjustment : ℤ) : Type 0 where
-  pub tests : (energy_fits shape filing number && keeps (limit_at shape number) base (to_z w64 (of_z w64 each)) (sum_of base adjustment)) ≡ rate_fits shape filing differences number
-  pub sum : sum_of base adjustment ≡ published_rate shape filing differences number
+pub record Tells (shape : Shape) (filing : Filing) (differences : ℤ) (number base : ℕ) (wide each adjustment : ℤ) : Type 0 where
+  pub tests : (energy_fits shape filing number && keeps (limit_at shape number) base (to_z w64 (of_z w64 each)) (sum_of wide adjustment)) ≡ rate_fits shape filing differences number
+  pub sum : sum_of wide adjustment ≡ published_rate shape filing differences number
 
-pub figures_tell : (shape : Shape) (filing : Filing) (differences : ℤ) (number base : ℕ) (each adjustment : ℤ) → base < 2 ^ 64 → SFits w64 differences → SFits w64 each → nat_abs adjustment ≤ 2 ^ 64 → base ≡ base_rate shape filing number → each ≡ per_unit shape filing (to_z w64 (of_z w64 differences)) number → adjustment ≡ adjustment_at shape filing (to_z w64 (of_z w64 differences)) number → Tells shape filing differences number base each adjustment
+pub figures_tell : (shape : Shape) (filing : Filing) (differences : ℤ) (number base : ℕ) (wide each adjustment : ℤ) → base < 2 ^ 64 → wide ≡ pos base → SFits w64 differences → SFits w64 each → nat_abs adjustment ≤ 2 ^ 64 → base ≡ base_rate shape filing number → each ≡ per_unit shape filing (to_z w64 (of_z w64 differences)) number → adjustment ≡ adjustment_at shape filing (to_z w64 (of_z w64 differences)) number → Tells shape filing differences number base wide each adjustment
 unfolding rate_fits published_rate
-figures_tell shape filing differences number base each adjustment wide given fits size eb ee ea =
+figures_tell shape filing differences number base wide each adjustment small widened given fits size eb ee ea =
     let ed = to_z-of_z w64 differences given in
-    let sum : sum_of base adjustment ≡ pos base +ℤ adjustment = omega (arith, ints) in
+    let sum : sum_of wide adjustment ≡ pos base +ℤ adjustment = omega (arith, ints) in
     record { tests = rw (to_z-of_z w64 each fits, sum, eb, ee, ea, ed) refl; sum = rw (sum, eb, ea, ed) refl }
 
 -- z is a number from 0 to the limit

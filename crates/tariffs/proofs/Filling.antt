@@ -1,66 +1,77 @@
 -- The rates that are filled in head by head.
-use Rattle.std.proofs.Common.{◌≡◌, ℕ, ◌+◌, ◌-◌, ◌<◌, ◌≤◌, true, List, get_or, set, ℤ, pos, nat_abs, ap, ◌∙◌, arith, below_more}
+use Rattle.std.proofs.Common.{◌≡◌, ℕ, ◌+◌, ◌-◌, ◌<◌, ◌≤◌, List, length, map, get_or, set, ℤ, pos, Ok, ap, ◌∙◌, arith, below_more, length-set, lit≤, sym}
+use Rattle.std.proofs.lemmas.List.{get_or-set_same, get_or-set_other, length-map}
+use Rattle.std.proofs.lemmas.Grind.{same_number_lists}
+use Rattle.std.proofs.lemmas.List.{get_or-map as get_or-map_at}
+use Rattle.std.proofs.Math.ListN.{get_or-map}
 use Rattle.methodology.specs.Heads.{heads_of}
-use Rattle.methodology.specs.Limits.{head_limit, factor_limit, demand_rate_limit}
+use Rattle.methodology.specs.Limits.{head_limit}
 use Rattle.methodology.specs.declared.shape.Shape.{Shape}
 use Rattle.rates.specs.declared.published.Rates.{Rates}
 use Rattle.tariffs.specs.declared.filing.Filing.{Filing}
-use Rattle.tariffs.specs.Publishing.{base_rate, published_rate, filed_factor, rate_fits, Published}
-use Rattle.tariffs.proofs.Adjusting.{rates_kept}
-use Rattle.tariffs.proofs.Tables.{Filled, filled_more, filled_bounded}
+use Rattle.tariffs.specs.declared.head_rates.HeadRates.{HeadRates}
+use Rattle.tariffs.specs.Publishing.{RatesHead, Published}
+
+-- rates that are not set
+abbrev pub unset : HeadRates
+unset = record { published = 0; base = 0; factor = 0; priced = lit≤ tt; based = lit≤ tt; filed = lit≤ tt }
+
+abbrev pub published_of : HeadRates → ℕ
+published_of rates = rates.published
+
+abbrev pub base_of : HeadRates → ℕ
+base_of rates = rates.base
+
+abbrev pub factor_of : HeadRates → ℕ
+factor_of rates = rates.factor
+
+-- a table that holds a figure of each head
+pub mapped : (figure : HeadRates → ℕ) (rated : List HeadRates) (table : List ℕ) → length table ≡ length rated → ((i : ℕ) → i < length rated → get_or table i 0 ≡ figure (get_or rated i unset)) → table ≡ map figure rated
+mapped figure rated table long at =
+    same_number_lists table (map figure rated) (long ∙ sym (length-map rated figure)) (λ k h. at k (omega arith) ∙ sym (get_or-map_at figure rated k unset 0 (omega arith)))
+
+-- each of a head's figures is 0
+pub record Unset (rates : HeadRates) : Type 0 where
+  pub published_none : rates.published ≡ 0
+  pub base_none : rates.base ≡ 0
+  pub factor_none : rates.factor ≡ 0
 
 module _ (shape : Shape) (filing : Filing) (earlier : List ℤ) where
-  -- the rates of the head at place k
-  abbrev pub published_at : ℕ → ℕ
-  published_at k = nat_abs (published_rate shape filing (get_or earlier k (pos 0)) (k + 1))
+  abbrev RatesPlace : ℕ → HeadRates → Type 0
+  RatesPlace k rates = RatesHead shape filing (get_or earlier k (pos 0)) (k + 1) (Ok rates)
 
-  abbrev pub base_at : ℕ → ℕ
-  base_at k = base_rate shape filing (k + 1)
+  -- the first k places hold the rates of their heads, and the others none
+  pub record RatedTo (k : ℕ) (rated : List HeadRates) : Type 0 where
+    pub sized : length rated ≡ head_limit
+    pub below : (j : ℕ) → j < k → RatesPlace j (get_or rated j unset)
+    pub past : (j : ℕ) → k ≤ j → Unset (get_or rated j unset)
 
-  abbrev pub factor_at : ℕ → ℕ
-  factor_at k = filed_factor shape filing (k + 1)
-
-  -- the heads at the first k places pass their tests, and the tables hold their rates
-  pub record RatedTo (k : ℕ) (published base factors : List ℕ) : Type 0 where
-    pub passed : (j : ℕ) → j < k → rate_fits shape filing (get_or earlier j (pos 0)) (j + 1) ≡ true
-    pub modest : (j : ℕ) → j < k → factor_at j ≤ factor_limit
-    pub published_filled : Filled published_at head_limit k published
-    pub base_filled : Filled base_at head_limit k base
-    pub factors_filled : Filled factor_at head_limit k factors
-
-  pub rated_more : (k after before factor : ℕ) (published base factors : List ℕ) → k < head_limit → RatedTo k published base factors → rate_fits shape filing (get_or earlier k (pos 0)) (k + 1) ≡ true → pos after ≡ published_rate shape filing (get_or earlier k (pos 0)) (k + 1) → before ≡ base_at k → factor ≡ factor_at k → factor ≤ factor_limit → RatedTo (k + 1) (set published k after) (set base k before) (set factors k factor)
-  rated_more k after before factor published base factors h rated fits is-published is_base is-factor small =
+  pub rated_more : (k : ℕ) (rates : HeadRates) (rated : List HeadRates) → k < head_limit → RatedTo k rated → RatesPlace k rates → RatedTo (k + 1) (set rated k rates)
+  rated_more k rates rated h to is =
+      let here : get_or (set rated k rates) k unset ≡ rates = get_or-set_same rated k rates unset (omega (arith, to.sized)) in
       record {
-        passed = below_more (λ j. rate_fits shape filing (get_or earlier j (pos 0)) (j + 1) ≡ true) k rated.passed fits;
-        modest = below_more (λ j. factor_at j ≤ factor_limit) k rated.modest (rw is-factor at small);
-        published_filled = filled_more published_at head_limit k after published h (ap nat_abs is-published) rated.published_filled;
-        base_filled = filled_more base_at head_limit k before base h is_base rated.base_filled;
-        factors_filled = filled_more factor_at head_limit k factor factors h is-factor rated.factors_filled;
+        sized = length-set rated k rates ∙ to.sized;
+        below = below_more (λ j. RatesPlace j (get_or (set rated k rates) j unset)) k (λ j before. rw (get_or-set_other rated k j rates unset (λ e. omega arith)) (to.below j before)) (rw here is);
+        past = λ j after. rw (get_or-set_other rated k j rates unset (λ e. omega arith)) (to.past j (omega arith));
       }
 
-  -- what the rates of all heads keep
-  pub rated_bounds : (k : ℕ) (published base factors : List ℕ) → RatedTo k published base factors → ((j : ℕ) → get_or published j 0 ≤ demand_rate_limit) × ((j : ℕ) → get_or base j 0 ≤ demand_rate_limit) × ((j : ℕ) → get_or factors j 0 ≤ factor_limit)
-  rated_bounds k published base factors rated =
-      let bounds = λ (j : ℕ) (h : j < k). rates_kept shape filing (get_or earlier j (pos 0)) (j + 1) (rated.passed j h) in (
-        filled_bounded published_at head_limit k demand_rate_limit published rated.published_filled (λ j h. (bounds j h).1.most),
-        filled_bounded base_at head_limit k demand_rate_limit base rated.base_filled (λ j h. (bounds j h).0),
-        filled_bounded factor_at head_limit k factor_limit factors rated.factors_filled rated.modest,
-      )
-
   -- once all heads are rated, the rates are those that are to be published
-  pub rated_all : (rates : Rates) → rates.shape ≡ shape → RatedTo (heads_of shape) rates.published rates.base rates.factors → Published shape filing earlier rates
-  rated_all rates same rated =
+  pub rated_all : (rates : Rates) (rated : List HeadRates) → rates.shape ≡ shape → rates.published ≡ map published_of rated → rates.base ≡ map base_of rated → rates.factors ≡ map factor_of rated → RatedTo (heads_of shape) rated → Published shape filing earlier rates
+  rated_all rates rated same published base factors to =
+      let published_at : (j : ℕ) → get_or rates.published j 0 ≡ (get_or rated j unset).published = λ j. rw published (get_or-map published_of rated j unset) in
+      let base_at : (j : ℕ) → get_or rates.base j 0 ≡ (get_or rated j unset).base = λ j. rw base (get_or-map base_of rated j unset) in
+      let factor_at : (j : ℕ) → get_or rates.factors j 0 ≡ (get_or rated j unset).factor = λ j. rw factors (get_or-map factor_of rated j unset) in
       record {
         heads = same;
         rated = λ number counted.
-            let place : number - 1 < heads_of shape = omega arith in
-            let back : number - 1 + 1 ≡ number = omega arith in
-            let kept = (rates_kept shape filing (get_or earlier (number - 1) (pos 0)) (number - 1 + 1) (rated.passed (number - 1) place)).1 in
+            let place = number - 1 in
+            let back : place + 1 ≡ number = omega arith in
+            let is = rw back at (to.below place (omega arith)) in
             record {
-              fitting = rw back at (rated.passed (number - 1) place);
-              published_is = rw back at (ap pos (rated.published_filled.below (number - 1) place) ∙ kept.same);
-              base_is = rw back at (rated.base_filled.below (number - 1) place);
-              factor_is = rw back at (rated.factors_filled.below (number - 1) place);
+              fitting = is.0;
+              published_is = ap pos (published_at place) ∙ is.2;
+              base_is = base_at place ∙ is.1;
+              factor_is = factor_at place ∙ is.3;
             };
-        past = λ place h. (rated.published_filled.past place h, rated.base_filled.past place h, rated.factors_filled.past place h);
+        past = λ place h. let none = to.past place h in (published_at place ∙ none.published_none, base_at place ∙ none.base_none, factor_at place ∙ none.factor_none);
       }

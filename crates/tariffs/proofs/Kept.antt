@@ -1,16 +1,15 @@
 -- The limits that a filing keeps when it fits.
-use Rattle.std.proofs.Common.{◌≡◌, ℕ, ◌+◌, ◌-◌, ◌<◌, ◌≤◌, true, ◌&&◌, leb, get_or, arith}
+use Rattle.std.proofs.Common.{◌≡◌, ℕ, ◌+◌, ◌<◌, ◌≤◌, true, ◌&&◌, leb, get_or}
 use Rattle.std.proofs.lemmas.Bool.{and_parts, leb-true}
 use Rattle.metering.specs.Verdict.{between}
 use Rattle.methodology.specs.Limits.{factor_limit}
-use Rattle.methodology.specs.Heads.{heads_of}
 use Rattle.methodology.specs.declared.shape.Shape.{Shape}
+use Rattle.tariffs.specs.declared.filed.Filed.{Filed}
 use Rattle.tariffs.specs.declared.filing.Filing.{Filing}
 use Rattle.tariffs.specs.declared.row.Row.{Row}
 use Rattle.tariffs.specs.Limits.{cost_limit, peaks_limit, sent_limit, delivered_limit, coefficient_limit, interest_limit}
 use Rattle.tariffs.specs.Rows.{row_fits}
 use Rattle.tariffs.specs.Filing.{rows_fit, singles_fit, filing_fits}
-use Rattle.tariffs.specs.Publishing.{first_interval}
 use Rattle.tariffs.proofs.Ranges.{Between, between_facts, row_at}
 
 -- each of the first n figures of a row lies between low and high
@@ -27,7 +26,7 @@ pub record Kept (shape : Shape) (filing : Filing) : Type 0 where
   pub sent : Between 1 sent_limit filing.sent
   pub interest : filing.interest ≤ interest_limit
 
-pub kept : (shape : Shape) (filing : Filing) → filing_fits shape filing ≡ true → Kept shape filing
+kept : (shape : Shape) (filing : Filing) → filing_fits shape filing ≡ true → Kept shape filing
 unfolding filing_fits rows_fit singles_fit
 kept shape filing fits =
     let whole = and_parts (rows_fit shape filing) (singles_fit filing) fits in
@@ -56,6 +55,6 @@ kept shape filing fits =
       interest = leb-true filing.interest interest_limit singles.1;
     }
 
--- the head of an interval has its place in the rows by interval
-pub interval_placed : (shape : Shape) (number : ℕ) → number ≤ heads_of shape → number - first_interval shape < shape.intervals
-interval_placed shape number counted = omega (arith, shape.some)
+-- what a filing that fits keeps
+pub limits_of : (filed : Filed) → Kept filed.shape filed.filing
+limits_of filed = kept filed.shape filed.filing filed.fitting

@@ -1,4 +1,3 @@
-mod Tables
 mod Ranges
 mod Kept
 mod Adjusting

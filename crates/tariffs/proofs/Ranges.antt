@@ -1,6 +1,8 @@
 -- Rows whose figures lie in a range, figure by figure.
-use Rattle.std.proofs.Common.{◌≡◌, ℕ, zero, suc, ◌+◌, ◌<◌, ◌≤◌, true, false, eqb, leb, List, get_or, refl, inl, inr, add-one, arith}
-use Rattle.std.proofs.lemmas.Bool.{and_parts, and_from, le-leb, leb-true, cases_eq, cases_Bool}
+use Rattle.std.proofs.Common.{◌≡◌, ℕ, zero, suc, ◌<◌, ◌≤◌, true, ◌&&◌, eqb, leb, List, length, get_or, take, refl, ap, ◌∙◌, inl, inr, add-one, arith}
+use Rattle.std.proofs.lemmas.Bool.{and_parts, leb-true, cases_eq}
+use Rattle.std.proofs.lemmas.List.Folds.{list_all_more}
+use Rattle.std.specs.List.{list_all}
 use Rattle.metering.specs.Verdict.{between}
 use Rattle.tariffs.specs.declared.row.Row.{Row}
 use Rattle.tariffs.specs.Rows.{each_between, row_fits}
@@ -13,17 +15,13 @@ pub between_facts : (low high x : ℕ) → between low high x ≡ true → Betwe
 between_facts low high x e =
     let both = and_parts (leb low x) (leb x high) e in (leb-true low x both.0, leb-true x high both.1)
 
-pub between_test : (low high x : ℕ) → Between low high x → between low high x ≡ true
-between_test low high x h = and_from (leb low x) (leb x high) (le-leb low x h.0) (le-leb x high h.1)
-
 module _ (low high : ℕ) (xs : List ℕ) where
-  pub each_none : each_between low high xs 0 ≡ true
+  -- as the library's test of all elements has it
+  pub each_all : (n : ℕ) → n ≤ length xs → list_all (between low high) (take n xs) ≡ each_between low high xs n
   unfolding each_between
-  each_none = refl
-
-  pub each_more : (k : ℕ) → each_between low high xs k ≡ true → Between low high (get_or xs k 0) → each_between low high xs (k + 1) ≡ true
-  unfolding each_between
-  each_more k e h = rw add-one (and_from (each_between low high xs k) (between low high (get_or xs k 0)) e (between_test low high (get_or xs k 0) h))
+  each_all zero h = refl
+  each_all (suc n) h =
+      (rw add-one at (list_all_more (between low high) xs n 0 (omega arith))) ∙ ap (λ b. b && between low high (get_or xs n 0)) (each_all n (omega arith))
 
   pub each_at : (n k : ℕ) → each_between low high xs n ≡ true → k < n → Between low high (get_or xs k 0)
   unfolding each_between
@@ -31,10 +29,6 @@ module _ (low high : ℕ) (xs : List ℕ) where
   each_at (suc n) k e h =
       let both = and_parts (each_between low high xs n) (between low high (get_or xs n 0)) e in
       elim (cases_eq k n) [ inl is ↦ rw is (between_facts low high (get_or xs n 0) both.1) | inr ne ↦ each_at n k both.0 (omega arith) ]
-
-  pub each_fails : (n k : ℕ) → k < n → (Between low high (get_or xs k 0) → ⊥) → each_between low high xs n ≡ false
-  each_fails n k h out =
-      elim (cases_Bool (each_between low high xs n)) [ inl e ↦ absurd (out (each_at n k e h)) | inr e ↦ e ]
 
 -- of a row that fits, each figure that is wanted lies in the range
 pub row_at : (low high wanted : ℕ) (row : Row) → row_fits low high wanted row ≡ true → (k : ℕ) → k < wanted → Between low high (get_or row.figures k 0)

@@ -1,5 +1,5 @@
 -- The rates of each head, and what publishing a tariff answers. Heads are counted from 1; a table has head 1 at place 0.
-use Rattle.std.specs.Prelude.{◌≡◌, ℕ, ◌+◌, ◌-◌, ◌*◌, ◌/◌, ◌<◌, ◌≤◌, Bool, true, false, cond, ◌&&◌, List, get_or, ℤ, pos, ◌+ℤ◌, Some, None, Ok, Err, Option, Result, ◌==◌, int_le, nat_le, slice_index, slice_index_or, unsigned_abs}
+use Rattle.std.specs.Prelude.{◌≡◌, ℕ, ◌+◌, ◌-◌, ◌*◌, ◌/◌, ◌<◌, ◌≤◌, Bool, true, false, cond, ◌&&◌, List, get_or, ℤ, pos, ◌+ℤ◌, Ok, Err, Result, ◌==◌, int_le, nat_le, slice_index, slice_index_or, unsigned_abs}
 use Rattle.arith.specs.Division.{floor}
 use Rattle.arith.specs.Scaling.{more_by, more_by_signed, thousandths}
 use Rattle.methodology.specs.Heads.{heads_of, head_at, by_demand, rate_limit}
@@ -8,6 +8,7 @@ use Rattle.methodology.specs.Meaning.{UpTo}
 use Rattle.methodology.specs.declared.shape.Shape.{Shape}
 use Rattle.rates.specs.declared.published.Rates.{Rates}
 use Rattle.tariffs.specs.declared.filing.Filing.{Filing}
+use Rattle.tariffs.specs.declared.head_rates.HeadRates.{HeadRates}
 use Rattle.tariffs.specs.declared.refusal.TariffFault.{TariffFault}
 use Rattle.tariffs.specs.declared.refusal.TariffFault.TheVariants.{Misfiled, OutOfRange}
 use Rattle.tariffs.specs.Filing.{filing_fits}
@@ -76,13 +77,14 @@ rate_fits shape filing differences number =
     energy_fits shape filing number
     && keeps (limit_at shape number) (base_rate shape filing number) (per_unit shape filing differences number) (published_rate shape filing differences number)
 
--- a head's base and published rate, or none where one of its tests fails
-abbrev pub RatesHead : Shape → Filing → ℤ → ℕ → Option (ℕ × ℕ) → Type 0
-RatesHead shape filing differences number None = rate_fits shape filing differences number ≡ false
-RatesHead shape filing differences number (Some rates) =
+-- a head's rates and loss factor, or its fault where one of its tests fails
+abbrev pub RatesHead : Shape → Filing → ℤ → ℕ → Result HeadRates TariffFault → Type 0
+RatesHead shape filing differences number (Ok rates) =
     (rate_fits shape filing differences number ≡ true)
-    × (rates.0 ≡ base_rate shape filing number)
-    × (pos rates.1 ≡ published_rate shape filing differences number)
+    × (rates.base ≡ base_rate shape filing number)
+    × (pos rates.published ≡ published_rate shape filing differences number)
+    × (rates.factor ≡ filed_factor shape filing number)
+RatesHead shape filing differences number (Err fault) = (fault ≡ OutOfRange number) × (rate_fits shape filing differences number ≡ false)
 
 -- the differences of a head
 abbrev pub earlier_at : List ℤ → ℕ → ℤ

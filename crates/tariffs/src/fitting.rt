@@ -1,6 +1,9 @@
 // The tests of what is filed: counts, and the limits of each figure.
-ghost use Rattle.std.specs.Prelude.{◌≡◌};
-ghost use Rattle.tariffs.specs.Rows.{each_between, row_fits};
+ghost use Rattle.std.specs.Prelude.{◌≡◌, ◌≤◌};
+ghost use Rattle.std.specs.List.{list_all};
+ghost use Rattle.metering.specs.Verdict.{between};
+ghost use Rattle.methodology.specs.Limits.{head_limit};
+ghost use Rattle.tariffs.specs.Rows.{row_fits};
 ghost use Rattle.tariffs.specs.Filing.{rows_fit, singles_fit};
 
 use crate::filing::Filing;
@@ -11,30 +14,35 @@ use crate::limits::{
 use crate::row::Row;
 use methodology::Shape;
 
+// Whether a figure lies between low and high.
+fn lies_between(low: u64, high: u64, figure: u64) -> bool
+    ensures { result ≡ between low high figure }
+{
+    (low..=high).contains(&figure)
+}
+
+// Whether each figure lies between low and high.
+fn all_between(low: u64, high: u64, figures: &[u64]) -> bool
+    ensures { result ≡ list_all (between low high) figures.now }
+{
+    figures
+        .iter()
+        .all(|figure| lies_between(low, high, *figure))
+}
+
 impl Row {
     // Whether there are as many figures as wanted, each between low and high.
     pub(crate) fn fits(&self, low: u64, high: u64, wanted: usize) -> bool
+        requires { wanted ≤ head_limit }
         ensures { result ≡ row_fits low high wanted self.now }
     {
-        self.count == wanted && self.each_between(low, high, wanted)
-    }
-
-    // Whether each of the first n figures lies between low and high.
-    fn each_between(&self, low: u64, high: u64, n: usize) -> bool
-        ensures { result ≡ each_between low high self.now.figures n }
-    {
-        for k in 0..n {
-            let figure = self.figure(k);
-            if figure < low || figure > high {
-                return false;
-            }
-        }
-        true
+        self.count == wanted && all_between(low, high, &self.figures[..wanted])
     }
 }
 
 impl Filing {
     // Whether the rows fit the heads, and their figures keep their limits.
+    #[tactic(auto, using(std::proofs::lemmas::Bool::Decides::nat_tests), unfolding(crate::specs::Filing::rows_fit))]
     pub(crate) fn rows_fit(&self, shape: Shape) -> bool
         ensures { result ≡ rows_fit shape self.now }
     {
@@ -47,14 +55,13 @@ impl Filing {
     }
 
     // Whether the figures that are filed once keep their limits.
+    #[tactic(auto, using(std::proofs::lemmas::Bool::Decides::nat_tests), unfolding(crate::specs::Filing::singles_fit))]
     pub(crate) fn singles_fit(&self) -> bool
         ensures { result ≡ singles_fit self.now }
     {
-        1 <= self.peaks
-            && self.peaks <= PEAKS_LIMIT
+        lies_between(1, PEAKS_LIMIT, self.peaks)
             && self.energy_cost <= COST_LIMIT
-            && 1 <= self.sent
-            && self.sent <= SENT_LIMIT
+            && lies_between(1, SENT_LIMIT, self.sent)
             && self.interest <= INTEREST_LIMIT
     }
 }

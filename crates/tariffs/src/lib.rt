@@ -4,6 +4,7 @@
 mod filed;
 pub mod filing;
 mod fitting;
+mod head_rates;
 pub mod limits;
 pub mod publishing;
 mod rating;
@@ -37,10 +38,8 @@ mod tests {
     }
 
     fn published(filing: &Filing, earlier: &[i64; HEADS]) -> Option<[u64; HEADS]> {
-        match publish(ThreeIntervals::shape(), filing, earlier) {
-            Ok(rates) => Some(rates.published),
-            Err(_) => None,
-        }
+        let rates = publish(ThreeIntervals::shape(), filing, earlier).ok()?;
+        Some(rates.published)
     }
 
     #[test]

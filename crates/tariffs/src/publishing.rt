@@ -1,8 +1,11 @@
 // Publishing a tariff.
+ghost use Rattle.std.specs.Prelude.{◌≡◌, map};
 ghost use Rattle.tariffs.specs.Publishing.{Publishes};
 
 use crate::filed::Filed;
 use crate::filing::Filing;
+use crate::head_rates::HeadRates;
+use crate::rating::FiledHead;
 use crate::refusal::TariffFault;
 use methodology::Shape;
 use rates::{HEADS, Rates};
@@ -11,9 +14,21 @@ use rates::{HEADS, Rates};
 pub fn publish(shape: Shape, filing: &Filing, earlier: &[i64; HEADS]) -> Result<Rates, TariffFault>
     ensures { Publishes shape filing.now earlier.now result }
 {
-    match Filed::new(shape, filing) {
-        Some(filed) => filed.rates(earlier),
-        None => Err(TariffFault::Misfiled),
+    Filed::new(shape, filing)?.rates(earlier)
+}
+
+// The rates of a market whose heads have these.
+fn rates_of(shape: Shape, rated: [HeadRates; HEADS]) -> Rates
+    ensures heads { result.shape ≡ shape }
+    ensures published { result.published ≡ map (λ head. head.published) rated }
+    ensures base { result.base ≡ map (λ head. head.base) rated }
+    ensures factors { result.factors ≡ map (λ head. head.factor) rated }
+{
+    Rates {
+        shape,
+        published: rated.map(|head| head.published),
+        base: rated.map(|head| head.base),
+        factors: rated.map(|head| head.factor),
     }
 }
 
@@ -22,24 +37,14 @@ impl Filed {
     fn rates(&self, earlier: &[i64; HEADS]) -> Result<Rates, TariffFault>
         ensures { Publishes self.now.shape self.now.filing earlier.now result }
     {
-        let mut published = [0; HEADS];
-        let mut base = [0; HEADS];
-        let mut factors = [0; HEADS];
-        for k in 0..self.shape.heads() {
-            match self.head_rates(k + 1, earlier[k]) {
-                Some((before, after)) => {
-                    base[k] = before;
-                    published[k] = after;
-                    factors[k] = self.factor(k + 1);
-                }
-                None => return Err(TariffFault::OutOfRange(k + 1)),
-            }
+        let mut rated = [HeadRates::unset(); HEADS];
+        for (place, differences) in earlier[..self.shape.heads()].iter().enumerate() {
+            let head = FiledHead {
+                filed: self,
+                number: place + 1,
+            };
+            rated[place] = head.rates(*differences)?;
         }
-        Ok(Rates {
-            shape: self.shape,
-            published,
-            base,
-            factors,
-        })
+        Ok(rates_of(self.shape, rated))
     }
 }

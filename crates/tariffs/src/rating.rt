@@ -7,7 +7,9 @@ ghost use Rattle.tariffs.specs.Limits.{cost_limit, coefficient_limit, grains_per
 ghost use Rattle.tariffs.specs.Publishing.{per_cost, first_interval, at_interval, demand_head, generation_energy, filed_factor, base_rate, forecast, per_unit, adjustment_at, energy_fits, keeps, limit_at, RatesHead};
 
 use crate::filed::Filed;
+use crate::head_rates::HeadRates;
 use crate::limits::GRAINS_PER_CENT;
+use crate::refusal::TariffFault;
 use arith::{adjustment, scale_ppm, scale_thousandths};
 use methodology::ENERGY_RATE_LIMIT;
 
@@ -27,7 +29,15 @@ fn per_cost(cents: u64, quantity: u64) -> u64
 fn keeps_limit(limit: u64, base: u64, each: i64, published: i128) -> bool
     ensures { result ≡ keeps limit base each published }
 {
-    base <= limit && each.unsigned_abs() <= limit && 0 <= published && published <= limit as i128
+    base <= limit && each.unsigned_abs() <= limit && (0..=i128::from(limit)).contains(&published)
+}
+
+// A head of a tariff that is filed well.
+#[derive(Clone, Copy)]
+pub(crate) struct FiledHead<'a> {
+    pub(crate) filed: &'a Filed,
+    pub(crate) number: usize,
+    ghost counted: { UpTo (heads_of filed.now.shape) number },
 }
 
 impl Filed {
@@ -38,21 +48,6 @@ impl Filed {
         FIRST_INTERVAL + self.shape.revenues
     }
 
-    // Whether a head is billed by demand.
-    fn is_demand(&self, number: usize) -> bool
-        ensures value { result ≡ demand_head self.now.shape number }
-        ensures order { result ≡ nat_le number (1 + self.now.shape.revenues) }
-    {
-        self.shape.head(number).is_demand()
-    }
-
-    // The place of a head's interval in the rows by interval; 0 for a demand head.
-    fn interval_place(&self, number: usize) -> usize
-        ensures { result ≡ number - first_interval self.now.shape }
-    {
-        number.saturating_sub(self.first_interval())
-    }
-
     // What a kWh that is sent in costs, grains.
     fn generation_energy(&self) -> u64
         ensures value { result ≡ generation_energy self.now.filing }
@@ -60,96 +55,110 @@ impl Filed {
     {
         per_cost(self.filing.energy_cost, self.filing.sent)
     }
+}
 
-    // The filed loss factor of an interval, ppm; 0 for a demand head.
-    pub(crate) fn factor(&self, number: usize) -> u32
-        requires { UpTo (heads_of self.now.shape) number }
-        ensures value { result ≡ filed_factor self.now.shape self.now.filing number }
+impl FiledHead<'_> {
+    // Whether the head is billed by demand.
+    fn is_demand(&self) -> bool
+        ensures value { result ≡ demand_head self.now.filed.now.shape self.now.number }
+        ensures order { result ≡ nat_le self.now.number (1 + self.now.filed.now.shape.revenues) }
+    {
+        self.filed.shape.head(self.number).is_demand()
+    }
+
+    // The place of its interval in the rows by interval; 0 for a demand head.
+    fn interval_place(&self) -> usize
+        ensures value { result ≡ self.now.number - first_interval self.now.filed.now.shape }
+        ensures inside { result < self.now.filed.now.shape.intervals }
+    {
+        self.number.saturating_sub(self.filed.first_interval())
+    }
+
+    // The filed loss factor of its interval, ppm; 0 for a demand head.
+    fn factor(&self) -> u32
+        ensures value { result ≡ filed_factor self.now.filed.now.shape self.now.filed.now.filing self.now.number }
         ensures most { result ≤ factor_limit }
     {
-        if self.is_demand(number) {
+        if self.is_demand() {
             0
         } else {
-            self.filing.factors.figure(self.interval_place(number)) as u32
+            self.filed.filing.factors.figure(self.interval_place()) as u32
         }
     }
 
-    // The coefficient of an interval, thousandths.
-    fn coefficient(&self, number: usize) -> u32
-        requires { UpTo (heads_of self.now.shape) number }
-        ensures value { result ≡ at_interval self.now.shape self.now.filing.coefficients.figures number }
+    // The coefficient of its interval, thousandths.
+    fn coefficient(&self) -> u32
+        ensures value { result ≡ at_interval self.now.filed.now.shape self.now.filed.now.filing.coefficients.figures self.now.number }
         ensures most { result ≤ coefficient_limit }
     {
-        self.filing.coefficients.figure(self.interval_place(number)) as u32
+        self.filed.filing.coefficients.figure(self.interval_place()) as u32
     }
 
     // The rate before the adjustment, grains.
-    fn base_rate(&self, number: usize) -> u64
-        requires { UpTo (heads_of self.now.shape) number }
-        ensures { result ≡ base_rate self.now.shape self.now.filing number }
+    fn base_rate(&self) -> u64
+        ensures { result ≡ base_rate self.now.filed.now.shape self.now.filed.now.filing self.now.number }
     {
-        if self.is_demand(number) {
-            return per_cost(self.filing.costs.figure(number - 1), self.filing.peaks);
+        let filing = &self.filed.filing;
+        if self.is_demand() {
+            return per_cost(filing.costs.figure(self.number - 1), filing.peaks);
         }
-        let with_losses = scale_ppm(self.generation_energy(), self.factor(number)) as u64;
-        scale_thousandths(with_losses, self.coefficient(number)) as u64
+        let with_losses = scale_ppm(self.filed.generation_energy(), self.factor()) as u64;
+        scale_thousandths(with_losses, self.coefficient()) as u64
     }
 
     // The quantity that the head is forecast to bill, kW or kWh.
-    fn forecast(&self, number: usize) -> u64
-        requires { UpTo (heads_of self.now.shape) number }
-        ensures value { result ≡ forecast self.now.shape self.now.filing number }
+    fn forecast(&self) -> u64
+        ensures value { result ≡ forecast self.now.filed.now.shape self.now.filed.now.filing self.now.number }
         ensures some { 0 < result }
     {
-        if self.is_demand(number) {
-            self.filing.peaks
+        if self.is_demand() {
+            self.filed.filing.peaks
         } else {
-            self.filing.delivered.figure(self.interval_place(number))
+            self.filed.filing.delivered.figure(self.interval_place())
         }
     }
 
     // The differences of an earlier period, per unit of the forecast, and the same with interest.
-    fn adjusted(&self, number: usize, differences: i64) -> (i64, i128)
-        requires { UpTo (heads_of self.now.shape) number }
-        ensures each { result.0 ≡ per_unit self.now.shape self.now.filing differences number }
-        ensures whole { result.1 ≡ adjustment_at self.now.shape self.now.filing differences number }
+    fn adjusted(&self, differences: i64) -> (i64, i128)
+        ensures each { result.0 ≡ per_unit self.now.filed.now.shape self.now.filed.now.filing differences self.now.number }
+        ensures whole { result.1 ≡ adjustment_at self.now.filed.now.shape self.now.filed.now.filing differences self.now.number }
         ensures size { unsigned_abs result.1 ≤ 2 ^ 64 }
     {
-        adjustment(
-            differences,
-            self.forecast(number),
-            self.filing.interest as u32,
-        )
-        .unwrap()
+        let interest = self.filed.filing.interest as u32;
+        adjustment(differences, self.forecast(), interest).unwrap()
     }
 
     // Whether generation energy keeps its limit, which is tested with the first interval.
-    fn energy_fits(&self, number: usize) -> bool
-        ensures { result ≡ energy_fits self.now.shape self.now.filing number }
+    #[tactic(auto, using(std::proofs::lemmas::Bool::Decides::nat_tests), unfolding(crate::specs::Publishing::energy_fits))]
+    fn energy_fits(&self) -> bool
+        ensures { result ≡ energy_fits self.now.filed.now.shape self.now.filed.now.filing self.now.number }
     {
-        number != self.first_interval() || self.generation_energy() <= ENERGY_RATE_LIMIT
+        self.number != self.filed.first_interval()
+            || self.filed.generation_energy() <= ENERGY_RATE_LIMIT
     }
 
-    // Whether a head's figures pass all its tests.
-    fn passes(&self, number: usize, base: u64, each: i64, published: i128) -> bool
-        ensures { result ≡ (energy_fits self.now.shape self.now.filing number && keeps (limit_at self.now.shape number) base each published) }
+    // Whether its figures pass all its tests.
+    fn passes(&self, base: u64, each: i64, published: i128) -> bool
+        ensures { result ≡ (energy_fits self.now.filed.now.shape self.now.filed.now.filing self.now.number && keeps (limit_at self.now.filed.now.shape self.now.number) base each published) }
     {
-        let limit = self.shape.head(number).rate_limit();
-        self.energy_fits(number) && keeps_limit(limit, base, each, published)
+        let limit = self.filed.shape.head(self.number).rate_limit();
+        self.energy_fits() && keeps_limit(limit, base, each, published)
     }
 
-    // A head's base and published rate, or none where one of its tests fails.
-    pub(crate) fn head_rates(&self, number: usize, differences: i64) -> Option<(u64, u64)>
-        requires { UpTo (heads_of self.now.shape) number }
-        ensures { RatesHead self.now.shape self.now.filing differences number result }
+    // Its rates, or its fault where one of its tests fails.
+    pub(crate) fn rates(&self, differences: i64) -> Result<HeadRates, TariffFault>
+        ensures { RatesHead self.now.filed.now.shape self.now.filed.now.filing differences self.now.number result }
     {
-        let base = self.base_rate(number);
-        let (each, adjustment) = self.adjusted(number, differences);
-        let published = base as i128 + adjustment;
-        if self.passes(number, base, each, published) {
-            Some((base, published as u64))
-        } else {
-            None
+        let base = self.base_rate();
+        let (each, adjustment) = self.adjusted(differences);
+        let published = i128::from(base) + adjustment;
+        if !self.passes(base, each, published) {
+            return Err(TariffFault::OutOfRange(self.number));
         }
+        Ok(HeadRates {
+            published: published as u64,
+            base,
+            factor: self.factor(),
+        })
     }
 }

@@ -3,8 +3,10 @@ ghost use Rattle.std.specs.Prelude.{◌≡◌, ℕ, ◌<◌, length, slice_index
 ghost use Rattle.methodology.specs.Limits.{head_limit};
 
 use rates::HEADS;
+use std::array;
 
 // The filer's own count, and the first figures: a market never needs more of them.
+// The count is kept beside the table, since it may be more than the table holds, and a call of the law copies the row.
 #[derive(Clone, Copy)]
 pub struct Row {
     pub count: usize,
@@ -17,13 +19,9 @@ impl Row {
         ensures counted { result.count ≡ length filed.now }
         ensures kept { (k : ℕ) → k < head_limit → slice_index result.figures k ≡ slice_index filed.now k }
     {
-        let mut figures = [0; HEADS];
-        for k in 0..filed.len().min(HEADS) {
-            figures[k] = filed[k];
-        }
         Row {
             count: filed.len(),
-            figures,
+            figures: array::from_fn(|place| filed.get(place).copied().unwrap_or(0)),
         }
     }
 
@@ -31,10 +29,6 @@ impl Row {
     pub fn figure(&self, place: usize) -> u64
         ensures { result ≡ slice_index self.now.figures place }
     {
-        if place < HEADS {
-            self.figures[place]
-        } else {
-            0
-        }
+        self.figures.get(place).copied().unwrap_or(0)
     }
 }

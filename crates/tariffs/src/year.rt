@@ -6,6 +6,7 @@ use crate::refusal::YearRefused;
 use crate::row::Row;
 use methodology::Shape;
 use rates::{REVENUES, Revenues};
+use std::array;
 
 // The revenues that the market's companies may collect in the year.
 pub fn file_year(shape: Shape, filed: &Row) -> Result<Revenues, YearRefused>
@@ -14,9 +15,11 @@ pub fn file_year(shape: Shape, filed: &Row) -> Result<Revenues, YearRefused>
     if !filed.fits(0, YEARLY_LIMIT, shape.revenues) {
         return Err(YearRefused);
     }
-    let mut yearly = [0; REVENUES];
-    for j in 0..shape.revenues {
-        yearly[j] = filed.figure(j);
-    }
-    Ok(Revenues { yearly })
+    Ok(Revenues {
+        yearly: array::from_fn(|j| if j < shape.revenues {
+            filed.figure(j)
+        } else {
+            0
+        }),
+    })
 }

@@ -1,4 +1,5 @@
 // What meters measured in the worked month.
+ghost use Rattle.std.specs.Prelude.{slice_index};
 ghost use Rattle.metering.specs.declared.reading.Kind.TheVariants.{Generator, Licensee};
 ghost use Rattle.worked_figures.specs.FirstCalls.{FirstSent, FirstTaken, Reads, in_blocks};
 
@@ -11,21 +12,14 @@ const MORNING: usize = 12;
 
 const EVENING: usize = 38;
 
-// What a meter measured: kW, and kWh in the three blocks.
-pub fn measured(
-    kind: Kind,
-    number: u8,
-    demand: u32,
-    night: u32,
-    morning: u32,
-    evening: u32,
-) -> Result<Reading, Refusal>
-    ensures { Reads kind number demand (in_blocks night morning evening) result }
+// What a meter measured: kW, and kWh by night, in the morning and in the evening.
+pub fn measured(kind: Kind, number: u8, demand: u32, energies: [u32; 3]) -> Result<Reading, Refusal>
+    ensures { Reads kind number demand (in_blocks (slice_index energies 0) (slice_index energies 1) (slice_index energies 2)) result }
 {
     let mut blocks = [0; BLOCKS];
-    blocks[NIGHT] = night;
-    blocks[MORNING] = morning;
-    blocks[EVENING] = evening;
+    blocks[NIGHT] = energies[0];
+    blocks[MORNING] = energies[1];
+    blocks[EVENING] = energies[2];
     let figures = Figures {
         kind: u32::from(kind.number()),
         number: u32::from(number),
@@ -41,12 +35,12 @@ pub fn measured(
 pub fn sent() -> Reading
     ensures { FirstSent result }
 {
-    measured(Kind::Generator, 1, 100, 20, 30, 20).unwrap()
+    measured(Kind::Generator, 1, 100, [20, 30, 20]).unwrap()
 }
 
 // The licensee's month.
 pub fn taken() -> Reading
     ensures { FirstTaken result }
 {
-    measured(Kind::Licensee, 1, 90, 18, 28, 19).unwrap()
+    measured(Kind::Licensee, 1, 90, [18, 28, 19]).unwrap()
 }

@@ -1,11 +1,5 @@
-use Rattle.std.proofs.Common.{◌-◌, ◌*◌, ◌/◌, sym, ◌∙◌, arith}
-use Rattle.arith.proofs.Splits.{split_holds, split_only}
+use Rattle.std.proofs.Common.{Ok, ap, ◌∙◌}
 use Rattle.arith.proofs.division.split.Goals as goal
 
-pub returns : goal.returns
-returns c =
-    let amount = c.args.amount in
-    let quantity = c.args.quantity in
-    let holds = split_holds amount quantity (omega arith) in
-    let value = sym (split_only amount quantity (amount / quantity) (amount - amount / quantity * quantity) holds) in
-    record { value = value; cases = holds; only = λ rate carry s. value ∙ split_only amount quantity rate carry s }
+pub returns-clause-only : goal.returns-clause-only
+returns-clause-only g c = λ rate carry s. ap Ok (c.div_rem.ensures ∙ g.met.A.Amount.only c.args.amount rate c.args.quantity carry s)

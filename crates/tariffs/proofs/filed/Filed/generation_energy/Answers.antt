@@ -1,11 +1,10 @@
 use Rattle.tariffs.specs.Publishing.{generation_energy}
-use Rattle.tariffs.proofs.Kept.{kept}
+use Rattle.tariffs.proofs.Kept.{limits_of}
 use Rattle.tariffs.proofs.filed.Filed.generation_energy.Goals as goal
 
 pub per_cost-requires : goal.per_cost-requires
 per_cost-requires c =
-    let filed = c.args.self.now in
-    let limits = kept filed.shape filed.filing filed.fitting in
+    let limits = limits_of c.args.self.now in
     (limits.energy, limits.sent.0)
 
 pub returns : goal.returns

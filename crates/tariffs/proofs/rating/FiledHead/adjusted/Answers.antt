@@ -6,28 +6,27 @@ use Rattle.arith.proofs.Growth.{at_most_double_signed}
 use Rattle.arith.specs.Scaling.{more_by_signed}
 use Rattle.tariffs.specs.Publishing.{forecast, per_unit, adjustment_at}
 use Rattle.tariffs.proofs.Adjusting.{adjusted_parts}
-use Rattle.tariffs.proofs.Kept.{kept}
-use Rattle.tariffs.proofs.filed.Filed.adjusted.Goals as goal
+use Rattle.tariffs.proofs.Kept.{limits_of}
+use Rattle.tariffs.proofs.rating.FiledHead.adjusted.Goals as goal
 
-pub overflow_cast-self : goal.overflow_cast-self
-overflow_cast-self c =
-    let filed = c.args.self.now in
-    let limits = kept filed.shape filed.filing filed.fitting in
+pub overflow_cast-interest : goal.overflow_cast-interest
+overflow_cast-interest c =
+    let limits = limits_of c.args.self.now.filed.now in
     record { fits = omega (arith, limits.interest) }
 
 pub returns : goal.returns
 unfolding per_unit adjustment_at
 returns c =
-    let filed = c.args.self.now in
+    let filed = c.args.self.now.filed.now in
     let d = c.args.differences in
     let q = c.forecast.result in
     let interest = filed.filing.interest in
     let p = c.unwrap.result in
-    let limits = kept filed.shape filed.filing filed.fitting in
+    let limits = limits_of filed in
     let same : to_z w64 (of_z w64 d) ≡ d = omega (arith, ints) in
     let told : adjustment_of d q interest ≡ Ok p = ap (λ x. adjustment_of x q interest) (sym same) ∙ sym c.adjustment.ensures.value ∙ c.unwrap.ensures in
     let parts = adjusted_parts d q interest p c.forecast.ensures.some told in
-    let quantity : q ≡ forecast filed.shape filed.filing c.args.number = c.forecast.ensures.value in
+    let quantity : q ≡ forecast filed.shape filed.filing c.args.self.now.number = c.forecast.ensures.value in
     let small : SFits w64 p.0 = search rules in
     let bound : nat_abs p.0 ≤ 9223372036854775808 = omega (arith, ints) in
     let grown = at_most_double_signed (floor d q) interest limits.interest in

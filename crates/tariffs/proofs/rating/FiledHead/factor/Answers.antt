@@ -1,16 +1,14 @@
 use Rattle.std.proofs.Common.{◌≤◌, refl, arith}
 use Rattle.methodology.specs.Limits.{factor_limit}
 use Rattle.tariffs.specs.Publishing.{filed_factor}
-use Rattle.tariffs.proofs.Kept.{kept, interval_placed}
-use Rattle.tariffs.proofs.filed.Filed.factor.Goals as goal
+use Rattle.tariffs.proofs.Kept.{limits_of}
+use Rattle.tariffs.proofs.rating.FiledHead.factor.Goals as goal
 
 -- the factor at the interval's place keeps its limit
 most : (c : goal.After-figure) → c.figure.result ≤ factor_limit
 most c =
-    let filed = c.args.self.now in
-    let limits = kept filed.shape filed.filing filed.fitting in
-    let inside = interval_placed filed.shape c.args.number c.requires.1 in
-    rw (c.figure.ensures, c.interval_place.ensures) (limits.factors _ inside).1
+    let limits = limits_of c.args.self.now.filed.now in
+    rw c.figure.ensures (limits.factors _ c.interval_place.ensures.inside).1
 
 pub overflow_cast-result : goal.overflow_cast-result
 overflow_cast-result c = record { fits = omega (arith, most c) }
@@ -22,4 +20,4 @@ returns-then-is_demand c = record { value = rw (← c.if-is_demand.ensures.value
 pub returns-else-is_demand : goal.returns-else-is_demand
 unfolding filed_factor
 returns-else-is_demand c =
-    record { value = rw (← c.if-is_demand.ensures.value) (rw (c.figure.ensures, c.interval_place.ensures) refl); most = most c }
+    record { value = rw (← c.if-is_demand.ensures.value) (rw (c.figure.ensures, c.interval_place.ensures.value) refl); most = most c }

@@ -1,0 +1,49 @@
+// The amounts that can be split.
+ghost use Rattle.std.specs.Prelude.{◌≡◌, ℕ, ◌/◌, ◌%◌, ◌<◌};
+ghost use Rattle.arith.specs.Division.{Split};
+ghost use Rattle.arith.specs.Splits.{parts_split, split_parts};
+
+// A number of cents or grains, of 64 or of 128 bits.
+pub trait Amount: Copy {
+    ghost number: { Self → ℕ };
+
+    // The quotient and the rest.
+    ghost parts: { Self → ℕ → Self × ℕ };
+
+    fn div_rem(self, quantity: u64) -> (Self, u64)
+        requires { 0 < quantity }
+        ensures { result ≡ parts self quantity };
+
+    ghost splits: { (amount : Self) (quantity : ℕ) → 0 < quantity → Split 1 (number amount) quantity (number (parts amount quantity).0) (parts amount quantity).1 };
+
+    ghost only: { (amount rate : Self) (quantity carry : ℕ) → Split 1 (number amount) quantity (number rate) carry → parts amount quantity ≡ (rate, carry) };
+}
+
+impl Amount for u64 {
+    ghost number = { λ n. n };
+
+    ghost parts = { λ n quantity. (n / quantity, n % quantity) };
+
+    ghost splits = { parts_split };
+
+    ghost only = { split_parts };
+
+    fn div_rem(self, quantity: u64) -> (u64, u64) {
+        (self / quantity, self % quantity)
+    }
+}
+
+impl Amount for u128 {
+    ghost number = { λ n. n };
+
+    ghost parts = { λ n quantity. (n / quantity, n % quantity) };
+
+    ghost splits = { parts_split };
+
+    ghost only = { split_parts };
+
+    fn div_rem(self, quantity: u64) -> (u128, u64) {
+        let quantity = u128::from(quantity);
+        (self / quantity, (self % quantity) as u64)
+    }
+}
