@@ -1,7 +1,8 @@
--- The numbers of faults and refusals.
-use Rattle.std.specs.Prelude.{ℕ}
+-- The numbers of faults and refusals, and how they are written.
+use Rattle.std.specs.Prelude.{ℕ, List, ◌++◌, codes, decimal}
 use Rattle.agreements.specs.declared.fault.Cause.{Cause}
 use Rattle.agreements.specs.declared.fault.Cause.TheVariants.{Contract, Ceiling}
+use Rattle.agreements.specs.declared.fault.Fault.{Fault}
 
 -- each cause's number
 abbrev pub cause_number : Cause → ℕ
@@ -11,3 +12,10 @@ cause_number Ceiling = 2
 -- an agreement is not made, since a price, the contracted kW or the quota is over its limit
 abbrev pub over_limit_number : ℕ
 over_limit_number = 2
+
+-- cause 1 layer 0
+abbrev pub fault_text : Fault → List ℕ
+fault_text e = codes "cause " ++ (decimal (cause_number e.cause) ++ (codes " layer " ++ decimal e.layer))
+
+abbrev pub over_limit_text : List ℕ
+over_limit_text = codes "over its limit"

@@ -1,6 +1,9 @@
 // Why an agreement does not admit a reading, and why one is not made.
-ghost use Rattle.std.specs.Prelude.{◌≡◌};
-ghost use Rattle.agreements.specs.Faults.{cause_number, over_limit_number};
+ghost use Rattle.std.specs.Prelude.{◌≡◌, Some};
+ghost use Rattle.agreements.specs.Faults.{cause_number, over_limit_number, fault_text, over_limit_text};
+
+use std::error::Error;
+use std::fmt;
 
 // What is wrong with the reading.
 #[derive(Clone, Copy, PartialEq, Eq, Debug)]
@@ -30,6 +33,17 @@ pub struct Fault {
     pub layer: u8,
 }
 
+// As `cause 1 layer 0`.
+impl fmt::Display for Fault {
+    ghost output = { λ e. Some (fault_text e) };
+
+    fn fmt<W: fmt::Write>(&self, f: &mut fmt::Formatter<W>) -> fmt::Result {
+        let cause = self.cause.number();
+        let layer = self.layer;
+        write!(f, "cause {cause} layer {layer}")
+    }
+}
+
 // The refusal to make an agreement: a price, the contracted kW or the quota is over its limit.
 #[derive(Clone, Copy, PartialEq, Eq, Debug)]
 pub struct OverLimit;
@@ -42,3 +56,13 @@ impl OverLimit {
         2
     }
 }
+
+impl fmt::Display for OverLimit {
+    ghost output = { λ _. Some over_limit_text };
+
+    fn fmt<W: fmt::Write>(&self, f: &mut fmt::Formatter<W>) -> fmt::Result {
+        f.write_str("over its limit")
+    }
+}
+
+impl Error for OverLimit {}

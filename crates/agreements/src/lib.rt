@@ -6,6 +6,7 @@ pub mod dues;
 pub mod fault;
 pub mod index;
 pub mod limits;
+mod price;
 pub mod quota;
 pub mod two_part;
 

@@ -2,8 +2,7 @@
 #![tactic(auto)]
 
 use agreements::{Dues, Index, Quota, TwoPart};
-use anyhow::anyhow;
-use banks::{Bank, BankRefusal, Beside, Listed, One, Unplaced};
+use banks::{Bank, Beside, Listed, One, Unplaced};
 use metering::{BLOCKS, Reading, make_reading};
 use stations::{Figures, Station, Stations};
 use strangers::{Retainer, Reversed};
@@ -34,17 +33,7 @@ fn tell<B: Bank>(rt: &HostRuntime, bank: &mut B, place: u8) -> anyhow::Result<()
             let noon = table.blocks[12];
             println!(rt; "place {place}: capacity {capacity}, block 2 {early}, block 12 {noon}")?;
         }
-        Err(refusal) => {
-            let number = refusal.number();
-            match refusal {
-                BankRefusal::NoPlace => println!(rt; "place {place}: refused {number}")?,
-                BankRefusal::Fault(fault) => {
-                    let cause = fault.cause.number();
-                    let layer = fault.layer;
-                    println!(rt; "place {place}: refused {number} cause {cause} layer {layer}")?;
-                }
-            }
-        }
+        Err(refusal) => println!(rt; "place {place}: {refusal}")?,
     }
     Ok(())
 }
@@ -52,18 +41,10 @@ fn tell<B: Bank>(rt: &HostRuntime, bank: &mut B, place: u8) -> anyhow::Result<()
 // Four places of four types, told from the last to the first: a quota; two two-part agreements under two index layers each,
 // one with too few kW contracted and one at a millionth (its second factor, 0, counts as 1,000,000); and a stranger under one.
 fn written_market(rt: &HostRuntime) -> anyhow::Result<()> {
-    let Ok(quota) = Quota::new(25, 60_000, 40_000) else {
-        return Err(anyhow!("no quota"));
-    };
-    let Ok(scarce) = TwoPart::new(99, 20_000, 50_000) else {
-        return Err(anyhow!("no two-part agreement"));
-    };
-    let Ok(rich) = TwoPart::new(100, 50_000_000_000, 50_000) else {
-        return Err(anyhow!("no two-part agreement"));
-    };
-    let Ok(retainer) = Retainer::new(70_000_000, 1) else {
-        return Err(anyhow!("no retainer"));
-    };
+    let quota = Quota::new(25, 60_000, 40_000)?;
+    let scarce = TwoPart::new(99, 20_000, 50_000)?;
+    let rich = TwoPart::new(100, 50_000_000_000, 50_000)?;
+    let retainer = Retainer::new(70_000_000, 1)?;
     let left = Beside::new(
         One::new(quota),
         One::new(Index::new(Index::new(scarce, 2_000_000), 500_000)),

@@ -1,13 +1,37 @@
 -- Two banks side by side, place by place.
-use Rattle.std.specs.Prelude.{◌≡◌, ℕ, zero, suc, ◌+◌, ◌-◌, ◌<◌, ◌≤◌, min, List, [], ◌∷◌, ◌++◌, length, get_or, take, Some, None, slice_index_or, slice_set, refl}
+use Rattle.std.specs.Prelude.{◌≡◌, ℕ, zero, suc, ◌+◌, ◌-◌, ◌<◌, ◌≤◌, min, List, [], ◌∷◌, ◌++◌, length, get_or, take, Some, None, Ok, Err, Result, slice_index_or, slice_set, refl}
 use Rattle.std.proofs.Common.{sym, ap, subst, ◌∙◌, ⊎_elim, arith}
 use Rattle.std.proofs.lemmas.List.{length-take, length-append, get_or-take, get_or_append_left, get_or-append_right, set-append_left, set-append_right}
 use Rattle.std.proofs.lemmas.Bool.{cases_eq, cases_lt}
 use Rattle.metering.specs.declared.reading.Reading.{Reading}
 use Rattle.agreements.specs.Meaning.{Meaning, moved}
 use Rattle.banks.specs.Limits.{place_limit}
+use Rattle.banks.specs.declared.beside.Side.{Side}
+use Rattle.banks.specs.declared.beside.Side.TheVariants.{Left, Right}
+use Rattle.banks.specs.declared.refusal.BankRefusal.{BankRefusal}
+use Rattle.banks.specs.declared.refusal.BankRefusal.TheVariants.{NoPlace}
 use Rattle.banks.specs.Rows.{nowhere, at_place, put_at, moved_at, side_by_side, Books, LawfulAt}
 use Rattle.banks.specs.Places.{at_in, at_past, at_zero, books}
+
+-- place k of two banks side by side is place j of the left one
+pub record OnLeft (l r : List Meaning) (k j : ℕ) : Type 0 where
+  pub there : at_place (side_by_side l r) k ≡ at_place l j
+  pub books : (rd : Reading) (after : List Meaning) → Books l j rd after → Books (side_by_side l r) k rd (side_by_side after r)
+
+-- or of the right one
+pub record OnRight (l r : List Meaning) (k j : ℕ) : Type 0 where
+  pub there : at_place (side_by_side l r) k ≡ at_place r j
+  pub books : (rd : Reading) (after : List Meaning) → Books r j rd after → Books (side_by_side l r) k rd (side_by_side l after)
+
+-- or is lacking
+pub record OnNeither (l r : List Meaning) (k : ℕ) : Type 0 where
+  pub there : at_place (side_by_side l r) k ≡ None
+  pub books : (rd : Reading) → Books (side_by_side l r) k rd (side_by_side l r)
+
+abbrev pub IsSide : List Meaning → List Meaning → ℕ → Result Side BankRefusal → Type 0
+IsSide l r k (Ok (Left j)) = OnLeft l r k j
+IsSide l r k (Ok (Right j)) = OnRight l r k j
+IsSide l r k (Err e) = (e ≡ NoPlace) × OnNeither l r k
 
 -- a write below the cut
 set_take : (n : ℕ) (xs : List Meaning) (i : ℕ) (m : Meaning) → i < n → slice_set (take n xs) i m ≡ take n (slice_set xs i m)
@@ -20,7 +44,7 @@ module _ (l r : List Meaning) where
   pub length_sides : length (side_by_side l r) ≡ min place_limit (length l + length r)
   length_sides = length-take place_limit (l ++ r) ∙ ap (min place_limit) (length-append l r)
 
-  pub at_left : (k : ℕ) → length l ≤ place_limit → k ≤ length l → at_place (side_by_side l r) k ≡ at_place l k
+  at_left : (k : ℕ) → length l ≤ place_limit → k ≤ length l → at_place (side_by_side l r) k ≡ at_place l k
   at_left k few h =
       ⊎_elim
       (λ (z : k ≡ 0). at_zero (side_by_side l r) k z ∙ sym (at_zero l k z))
@@ -30,7 +54,7 @@ module _ (l r : List Meaning) where
       ∙ sym (at_in l k (omega arith) h))
       (cases_eq k 0)
 
-  pub at_right : (k : ℕ) → length l < k → k ≤ place_limit → at_place (side_by_side l r) k ≡ at_place r (k - length l)
+  at_right : (k : ℕ) → length l < k → k ≤ place_limit → at_place (side_by_side l r) k ≡ at_place r (k - length l)
   at_right k h h' =
       ⊎_elim
       (λ (z : length r < k - length l). at_past (side_by_side l r) k (omega (arith, length_sides)) ∙ sym (at_past r (k - length l) z))
@@ -40,7 +64,7 @@ module _ (l r : List Meaning) where
       ∙ sym (at_in r (k - length l) (omega arith) z))
       (cases_lt (length r) (k - length l))
 
-  pub at_beyond : (k : ℕ) → place_limit < k → at_place (side_by_side l r) k ≡ None
+  at_beyond : (k : ℕ) → place_limit < k → at_place (side_by_side l r) k ≡ None
   at_beyond k h = at_past (side_by_side l r) k (omega (arith, length_sides))
 
   module _ (rd : Reading) where
@@ -69,18 +93,6 @@ module _ (l r : List Meaning) where
         ∙ sym (ap (λ o. side_by_side l (put_at r (k - length l) rd o)) (at_in r (k - length l) (omega arith) z)))
         (cases_lt (length r) (k - length l))
 
-    -- booking on one side is booking on both together
-    pub books_left : (k : ℕ) (l' : List Meaning) → length l ≤ place_limit → k ≤ length l → Books l k rd l' → Books (side_by_side l r) k rd (side_by_side l' r)
-    books_left k l' few h b = books _ k rd _ (ap (λ ms. side_by_side ms r) b.there ∙ sym (moved_left k few h))
-
-    pub books_right : (k n : ℕ) (r' : List Meaning) → n ≡ length l → n < k → k ≤ place_limit → Books r (k - n) rd r' → Books (side_by_side l r) k rd (side_by_side l r')
-    books_right k n r' e h h' b =
-        books _ k rd _
-        (ap (side_by_side l) (b.there ∙ ap (λ i. moved_at r (k - i) rd) e) ∙ sym (moved_right k (omega arith) h'))
-
-    pub books_beyond : (k : ℕ) → place_limit < k → Books (side_by_side l r) k rd (side_by_side l r)
-    books_beyond k h = books _ k rd _ (sym (ap (put_at (side_by_side l r) k rd) (at_beyond k h)))
-
     pub lawful_sides : (k : ℕ) → length l ≤ place_limit → ((j : ℕ) → LawfulAt (at_place l j) rd) → ((j : ℕ) → LawfulAt (at_place r j) rd) → LawfulAt (at_place (side_by_side l r) k) rd
     lawful_sides k few on-left on-right =
         ⊎_elim
@@ -91,3 +103,24 @@ module _ (l r : List Meaning) where
         (cases_lt place_limit k))
         (λ (h : k ≤ length l). subst (λ o. LawfulAt o rd) (sym (at_left k few h)) (on-left k))
         (cases_lt (length l) k)
+
+  -- booking on one side is booking on both together
+  pub on_left : (k : ℕ) → length l ≤ place_limit → k ≤ length l → OnLeft l r k k
+  on_left k few h =
+      record {
+        there = at_left k few h;
+        books = λ rd after b. books _ k rd _ (ap (λ ms. side_by_side ms r) b.there ∙ sym (moved_left rd k few h));
+      }
+
+  pub on_right : (k n : ℕ) → n ≡ length l → n < k → k ≤ place_limit → OnRight l r k (k - n)
+  on_right k n e h h' =
+      record {
+        there = at_right k (omega arith) h' ∙ ap (λ i. at_place r (k - i)) (sym e);
+        books =
+            λ rd after b. books _ k rd _
+            (ap (side_by_side l) (b.there ∙ ap (λ i. moved_at r (k - i) rd) e) ∙ sym (moved_right rd k (omega arith) h'));
+      }
+
+  pub on_neither : (k : ℕ) → place_limit < k → OnNeither l r k
+  on_neither k h =
+      record { there = at_beyond k h; books = λ rd. books _ k rd _ (sym (ap (put_at (side_by_side l r) k rd) (at_beyond k h))) }

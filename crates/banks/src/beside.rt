@@ -2,7 +2,7 @@
 ghost use Rattle.std.specs.Prelude.{◌≡◌};
 ghost use Rattle.banks.specs.Rows.{side_by_side};
 ghost use Rattle.std.proofs.Common.{arith};
-ghost use Rattle.banks.specs.Sides.{length_sides, lawful_sides};
+ghost use Rattle.banks.specs.Sides.{IsSide, length_sides, lawful_sides};
 
 use crate::bank::Bank;
 use crate::refusal::BankRefusal;
@@ -24,6 +24,29 @@ impl<L, R> Beside<L, R> {
     }
 }
 
+// The side of a place, and its number there.
+#[derive(Clone, Copy)]
+enum Side {
+    Left(u8),
+    Right(u8),
+}
+
+impl<L: Bank, R: Bank> Beside<L, R> {
+    // Where a place is.
+    fn side(&self, place: u8) -> Result<Side, BankRefusal>
+        ensures { IsSide (L.Bank.row self.now.left) (R.Bank.row self.now.right) place result }
+    {
+        let left = self.left.places();
+        if place <= left {
+            Ok(Side::Left(place))
+        } else if place <= PLACES {
+            Ok(Side::Right(place - left))
+        } else {
+            Err(BankRefusal::NoPlace)
+        }
+    }
+}
+
 impl<L: Bank, R: Bank> Bank for Beside<L, R> {
     ghost row = { λ s. side_by_side (L.Bank.row s.left) (R.Bank.row s.right) };
 
@@ -39,16 +62,10 @@ impl<L: Bank, R: Bank> Bank for Beside<L, R> {
     }
 
     fn ask_at(&self, place: u8, reading: &Reading, table: &mut Dues) -> Result<(), BankRefusal> {
-        let left = self.left.places();
-        if place <= left {
-            self.left.ask_at(place, reading, table)?;
-            return Ok(());
+        match self.side(place)? {
+            Side::Left(there) => self.left.ask_at(there, reading, table),
+            Side::Right(there) => self.right.ask_at(there, reading, table),
         }
-        if place > PLACES {
-            return Err(BankRefusal::NoPlace);
-        }
-        self.right.ask_at(place - left, reading, table)?;
-        Ok(())
     }
 
     fn book_at(
@@ -57,15 +74,9 @@ impl<L: Bank, R: Bank> Bank for Beside<L, R> {
         reading: &Reading,
         table: &mut Dues,
     ) -> Result<(), BankRefusal> {
-        let left = self.left.places();
-        if place <= left {
-            self.left.book_at(place, reading, table)?;
-            return Ok(());
+        match self.side(place)? {
+            Side::Left(there) => self.left.book_at(there, reading, table),
+            Side::Right(there) => self.right.book_at(there, reading, table),
         }
-        if place > PLACES {
-            return Err(BankRefusal::NoPlace);
-        }
-        self.right.book_at(place - left, reading, table)?;
-        Ok(())
     }
 }

@@ -1,5 +1,5 @@
 // One agreement is a bank of one place.
-ghost use Rattle.std.specs.Prelude.{◌≡◌, [], ◌∷◌};
+ghost use Rattle.std.specs.Prelude.{◌≡◌, ◌≢◌, [], ◌∷◌, MatchResult};
 ghost use Rattle.std.proofs.Common.{rules};
 
 use crate::bank::Bank;
@@ -20,6 +20,17 @@ impl<A> One<A> {
     }
 }
 
+// Refuses any place but 1.
+fn only_place(place: u8) -> Result<(), BankRefusal>
+    ensures { MatchResult result (λ _. place ≡ 1) (λ e. (place ≢ 1) × (e ≡ BankRefusal.NoPlace)) }
+{
+    if place == 1 {
+        Ok(())
+    } else {
+        Err(BankRefusal::NoPlace)
+    }
+}
+
 impl<A: Agreement> Bank for One<A> {
     ghost row = { λ s. A.Agreement.meaning s.agreement ∷ [] };
 
@@ -32,11 +43,10 @@ impl<A: Agreement> Bank for One<A> {
     }
 
     fn ask_at(&self, place: u8, reading: &Reading, table: &mut Dues) -> Result<(), BankRefusal> {
-        if place != 1 {
-            return Err(BankRefusal::NoPlace);
-        }
-        self.agreement.ask(reading, table)?;
-        Ok(())
+        only_place(place)?;
+        self.agreement
+            .ask(reading, table)
+            .map_err(BankRefusal::from)
     }
 
     fn book_at(
@@ -45,10 +55,9 @@ impl<A: Agreement> Bank for One<A> {
         reading: &Reading,
         table: &mut Dues,
     ) -> Result<(), BankRefusal> {
-        if place != 1 {
-            return Err(BankRefusal::NoPlace);
-        }
-        self.agreement.book(reading, table)?;
-        Ok(())
+        only_place(place)?;
+        self.agreement
+            .book(reading, table)
+            .map_err(BankRefusal::from)
     }
 }

@@ -1,9 +1,10 @@
 // Why a bank gives no dues.
-ghost use Rattle.std.specs.Prelude.{◌≡◌};
+ghost use Rattle.std.specs.Prelude.{◌≡◌, Some};
 ghost use Rattle.banks.specs.declared.refusal.BankRefusal.TheVariants.{Fault as Inner};
-ghost use Rattle.banks.specs.Refusals.{number_of};
+ghost use Rattle.banks.specs.Refusals.{number_of, refusal_text};
 
 use agreements::Fault;
+use std::fmt;
 
 #[derive(Clone, Copy, PartialEq, Eq, Debug)]
 pub enum BankRefusal {
@@ -30,5 +31,18 @@ impl From<Fault> for BankRefusal {
 
     fn from(fault: Fault) -> BankRefusal {
         BankRefusal::Fault(fault)
+    }
+}
+
+// As `refused 8`, or `refused 10 cause 1 layer 0`.
+impl fmt::Display for BankRefusal {
+    ghost output = { λ e. Some (refusal_text e) };
+
+    fn fmt<W: fmt::Write>(&self, f: &mut fmt::Formatter<W>) -> fmt::Result {
+        let number = self.number();
+        match self {
+            BankRefusal::NoPlace => write!(f, "refused {number}"),
+            BankRefusal::Fault(inner) => write!(f, "refused {number} {inner}"),
+        }
     }
 }

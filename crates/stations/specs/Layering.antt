@@ -6,7 +6,7 @@ use Rattle.metering.specs.declared.reading.Reading.{Reading}
 use Rattle.agreements.specs.declared.dues.Dues.{Dues}
 use Rattle.agreements.specs.declared.fault.Fault.{Fault}
 use Rattle.agreements.specs.Limits.{layer_limit}
-use Rattle.agreements.specs.Meaning.{Meaning, Answer, admitted, refused, answer, outcome, written, standing_after, moved, Lawful}
+use Rattle.agreements.specs.Meaning.{Meaning, Answer, admitted, refused, answer, outcome, standing_after, moved, Lawful}
 use Rattle.agreements.specs.Indexes.{counted, scaled_dues, passes, over_ceiling, index_dues, indexed_answer, above, indexed}
 use Rattle.agreements.specs.Bounds.{two_part_lawful, quota_lawful}
 use Rattle.agreements.specs.Indexing.{lawful_indexed}
@@ -42,10 +42,6 @@ refused_up [] (suc i) m r x e = e
 refused_up (f ∷ fs) (suc i) m r x e = refused_up fs i (indexed (counted f) m) r x e
 
 -- one layer more: the same test makes the answer and the dues
-by_test_on : (b : Bool) (d e : Dues) (s : List ℕ) (x : Fault) → ◌≡◌ {A = Result Dues Fault} (Ok e) (cond b (Err x) (Ok d)) → cond b (refused x) (admitted d s) ≡ admitted e s
-by_test_on true d e s x z = cc
-by_test_on false d e s x z = cc
-
 by_test_off : (b : Bool) (d : Dues) (s : List ℕ) (x y : Fault) → ◌≡◌ {A = Result Dues Fault} (Err y) (cond b (Err x) (Ok d)) → cond b (refused x) (admitted d s) ≡ refused y
 by_test_off true d s x y z = cc
 by_test_off false d s x y z = cc
@@ -62,23 +58,13 @@ module _ (fs : List ℕ) (i : ℕ) (m : Meaning) (r : Reading) (layer f : ℕ) (
       ∙ ap (indexed_answer (above (layered (take i fs) m).layer) (counted (slice_index fs i))) so_far
       ∙ sym (ap (λ l. indexed_answer l f (admitted d s)) is-layer ∙ ap (λ g. indexed_answer (above (layered (take i fs) m).layer) g (admitted d s)) is-factor)
 
-  pub up_on : (e : Dues) → Ok e ≡ index_dues layer f d → answer (layered (take (i + 1) fs) m) r ≡ admitted e s
-  up_on e ok = next_answer ∙ by_test_on (passes (scaled_dues f d)) (scaled_dues f d) e s (over_ceiling layer) ok
-
   pub up_off : (x : Fault) → Err x ≡ index_dues layer f d → answer (layered fs m) r ≡ refused x
   up_off x off = refused_up fs (i + 1) m r x (next_answer ∙ by_test_off (passes (scaled_dues f d)) (scaled_dues f d) s (over_ceiling layer) x off)
-
-  pub up_layer : layer ≡ (layered (take (i + 1) fs) m).layer
-  up_layer = is-layer ∙ sym (ap (λ n. n.layer) next)
 
 -- what an outcome tells of the answer
 pub was_refused : (a : Answer) (x : Fault) → Err x ≡ outcome a → a ≡ refused x
 was_refused (admitted d s) x e = cc
 was_refused (refused y) x e = cc
-
-pub was_admitted : (a : Answer) (d : Dues) (s : List ℕ) → Ok tt ≡ outcome a → a ≡ admitted (written a d) (standing_after a s)
-was_admitted (admitted d' s') d s e = refl
-was_admitted (refused y) d s e = cc
 
 -- what comes through the layers came through the lowest
 pub below_admitted : (fs : List ℕ) (m : Meaning) (r : Reading) → Ok tt ≡ outcome (answer (layered fs m) r) → (a : Answer) → answer m r ≡ a → Ok tt ≡ outcome a

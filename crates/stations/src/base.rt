@@ -5,6 +5,7 @@ ghost use Rattle.stations.specs.Layering.{base_lawful};
 use agreements::{Agreement, Dues, Fault, Quota, TwoPart};
 use metering::Reading;
 
+// Each method has an arm for each kind: one that gave out a `dyn` value for either would hide which contract it has.
 #[derive(Clone, Copy)]
 pub enum Base {
     TwoPart(TwoPart),
@@ -31,13 +32,9 @@ impl Agreement for Base {
     }
 
     fn book(&mut self, reading: &Reading, table: &mut Dues) -> Result<(), Fault> {
-        match *self {
-            Base::TwoPart(agreement) => agreement.ask(reading, table),
-            Base::Quota(mut agreement) => {
-                let answer = agreement.book(reading, table);
-                *self = Base::Quota(agreement);
-                answer
-            }
+        match self {
+            Base::TwoPart(agreement) => agreement.book(reading, table),
+            Base::Quota(agreement) => agreement.book(reading, table),
         }
     }
 }

@@ -22,12 +22,14 @@ pub enum Figures {
     },
 }
 
-impl Figures {
-    // The agreement that the figures stand for.
-    pub fn base(self) -> Result<Base, OverLimit>
-        ensures { Makes (figures_fit self) base_meaning (figured self) result }
-    {
-        match self {
+// The agreement that figures stand for.
+impl TryFrom<Figures> for Base {
+    type Error = OverLimit;
+
+    ghost try_from_gives = { λ figures answer. Makes (figures_fit figures) base_meaning (figured figures) answer };
+
+    fn try_from(figures: Figures) -> Result<Base, OverLimit> {
+        match figures {
             Figures::TwoPart {
                 contracted,
                 capacity,

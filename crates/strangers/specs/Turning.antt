@@ -1,12 +1,12 @@
 -- A row told from its last place to its first.
-use Rattle.std.specs.Prelude.{◌≡◌, ℕ, ◌+◌, ◌-◌, ◌<◌, ◌≤◌, List, reverse, length, get_or, set, Some, None, slice_index_or, slice_set, refl}
+use Rattle.std.specs.Prelude.{◌≡◌, ℕ, ◌+◌, ◌-◌, ◌<◌, ◌≤◌, List, reverse, length, get_or, set, Some, slice_index_or, slice_set, refl}
 use Rattle.std.proofs.Common.{sym, ap, subst, ◌∙◌, ⊎_elim, arith}
 use Rattle.std.proofs.lemmas.List.{length-reverse, length-set, get_or-reverse, get_or-set_same, get_or-set_other, ext_get_or}
 use Rattle.std.proofs.lemmas.Bool.{cases_eq, cases_lt}
 use Rattle.metering.specs.declared.reading.Reading.{Reading}
 use Rattle.agreements.specs.Meaning.{Meaning, moved}
 use Rattle.banks.specs.Rows.{nowhere, at_place, put_at, Books, LawfulAt}
-use Rattle.banks.specs.Places.{at_in, at_past, at_zero, books}
+use Rattle.banks.specs.Places.{at_in, at_past, at_zero, by_place, books}
 
 set_reverse : (ms : List Meaning) (i : ℕ) (m : Meaning) → i < length ms → reverse (slice_set ms i m) ≡ slice_set (reverse ms) (length ms - 1 - i) m
 set_reverse ms i m h =
@@ -27,45 +27,32 @@ set_reverse ms i m h =
     ∙ sym (get_or-set_other (reverse ms) (length ms - 1 - i) j m nowhere (λ z. e (omega arith)) ∙ get_or-reverse ms j nowhere lt))
     (cases_eq (length ms - 1 - j) i))
 
-module _ (ms : List Meaning) (n k : ℕ) (all : n ≡ length ms) (h : k ≤ n) where
-  pub turned : at_place (reverse ms) k ≡ at_place ms (n + 1 - k)
+module _ (ms : List Meaning) (k : ℕ) where
+  -- past the last place both are lacking
+  pub turned : at_place (reverse ms) k ≡ at_place ms (length ms + 1 - k)
   turned =
       let back = length-reverse ms in
       ⊎_elim
-      (λ (z : k ≡ 0). at_zero (reverse ms) k z ∙ sym (at_past ms (n + 1 - k) (omega arith)))
+      (λ (y : length ms < k). at_past (reverse ms) k (omega arith) ∙ sym (at_zero ms (length ms + 1 - k) (omega arith)))
+      (λ (y : k ≤ length ms).
+      ⊎_elim
+      (λ (z : k ≡ 0). at_zero (reverse ms) k z ∙ sym (at_past ms (length ms + 1 - k) (omega arith)))
       (λ (z : k ≡ 0 → ⊥).
       at_in (reverse ms) k (omega arith) (omega arith)
       ∙ ap Some (get_or-reverse ms (k - 1) nowhere (omega arith) ∙ ap (λ i. get_or ms i nowhere) (omega arith))
-      ∙ sym (at_in ms (n + 1 - k) (omega arith) (omega arith)))
-      (cases_eq k 0)
+      ∙ sym (at_in ms (length ms + 1 - k) (omega arith) (omega arith)))
+      (cases_eq k 0))
+      (cases_lt (length ms) k)
 
-  pub books_turned : (r : Reading) (after : List Meaning) → Books ms (n + 1 - k) r after → Books (reverse ms) k r (reverse after)
+  pub books_turned : (r : Reading) (after : List Meaning) → Books ms (length ms + 1 - k) r after → Books (reverse ms) k r (reverse after)
   books_turned r after b =
-      let back = length-reverse ms in
       books _ k r _
       (ap reverse b.there
-      ∙ ⊎_elim
-      (λ (z : k ≡ 0).
-      ap (λ o. reverse (put_at ms (n + 1 - k) r o)) (at_past ms (n + 1 - k) (omega arith))
-      ∙ sym (ap (put_at (reverse ms) k r) (at_zero (reverse ms) k z)))
-      (λ (z : k ≡ 0 → ⊥).
-      let there = at_in ms (n + 1 - k) (omega arith) (omega arith) in
-      ap (λ o. reverse (put_at ms (n + 1 - k) r o)) there
-      ∙ set_reverse ms (n + 1 - k - 1) _ (omega arith)
-      ∙ ap (λ i. set (reverse ms) i (moved (slice_index_or ms (n + 1 - k - 1) nowhere) r)) (omega arith)
-      ∙ sym (ap (put_at (reverse ms) k r) (turned ∙ there)))
-      (cases_eq k 0))
-
--- past the last place
-pub beyond : (ms : List Meaning) (k : ℕ) → length ms < k → at_place (reverse ms) k ≡ None
-beyond ms k h = let back = length-reverse ms in at_past (reverse ms) k (omega arith)
-
-pub books_beyond : (ms : List Meaning) (k : ℕ) (r : Reading) → length ms < k → Books (reverse ms) k r (reverse ms)
-books_beyond ms k r h = books _ k r _ (sym (ap (put_at (reverse ms) k r) (beyond ms k h)))
+      ∙ by_place ms (length ms + 1 - k) (λ o. reverse (put_at ms (length ms + 1 - k) r o) ≡ put_at (reverse ms) k r o) refl
+      (λ l u.
+      set_reverse ms (length ms + 1 - k - 1) _ (omega arith)
+      ∙ ap (λ i. set (reverse ms) i (moved (slice_index_or ms (length ms + 1 - k - 1) nowhere) r)) (omega arith))
+      ∙ sym (ap (put_at (reverse ms) k r) turned))
 
 pub lawful_turned : (ms : List Meaning) (k : ℕ) (r : Reading) → ((j : ℕ) → LawfulAt (at_place ms j) r) → LawfulAt (at_place (reverse ms) k) r
-lawful_turned ms k r each =
-    ⊎_elim
-    (λ (z : length ms < k). subst (λ o. LawfulAt o r) (sym (beyond ms k z)) tt)
-    (λ (z : k ≤ length ms). subst (λ o. LawfulAt o r) (sym (turned ms (length ms) k refl z)) (each (length ms + 1 - k)))
-    (cases_lt (length ms) k)
+lawful_turned ms k r each = subst (λ o. LawfulAt o r) (sym (turned ms k)) (each (length ms + 1 - k))

@@ -1,5 +1,5 @@
 // A bank with its places told from the last to the first.
-ghost use Rattle.std.specs.Prelude.{◌≡◌, reverse};
+ghost use Rattle.std.specs.Prelude.{◌≡◌, ◌+◌, ◌-◌, reverse, length};
 ghost use Rattle.std.proofs.Common.{arith};
 ghost use Rattle.std.proofs.lemmas.List.{length-reverse};
 ghost use Rattle.strangers.specs.Turning.{lawful_turned};
@@ -21,6 +21,15 @@ impl<B> Reversed<B> {
     }
 }
 
+impl<B: Bank> Reversed<B> {
+    // The number that the bank itself gives a place; 0, which is no place, past the last one.
+    fn turned(&self, place: u8) -> u8
+        ensures { result ≡ length (B.Bank.row self.now.bank) + 1 - place }
+    {
+        (self.bank.places() + 1).saturating_sub(place)
+    }
+}
+
 impl<B: Bank> Bank for Reversed<B> {
     ghost row = { λ s. reverse (B.Bank.row s.bank) };
 
@@ -33,12 +42,8 @@ impl<B: Bank> Bank for Reversed<B> {
     }
 
     fn ask_at(&self, place: u8, reading: &Reading, table: &mut Dues) -> Result<(), BankRefusal> {
-        let last = self.bank.places();
-        if place > last {
-            return Err(BankRefusal::NoPlace);
-        }
-        self.bank.ask_at(last + 1 - place, reading, table)?;
-        Ok(())
+        let there = self.turned(place);
+        self.bank.ask_at(there, reading, table)
     }
 
     fn book_at(
@@ -47,11 +52,7 @@ impl<B: Bank> Bank for Reversed<B> {
         reading: &Reading,
         table: &mut Dues,
     ) -> Result<(), BankRefusal> {
-        let last = self.bank.places();
-        if place > last {
-            return Err(BankRefusal::NoPlace);
-        }
-        self.bank.book_at(last + 1 - place, reading, table)?;
-        Ok(())
+        let there = self.turned(place);
+        self.bank.book_at(there, reading, table)
     }
 }

@@ -1,5 +1,5 @@
 // The list's answers.
-ghost use Rattle.std.specs.Prelude.{◌≡◌, ◌+◌, ◌<◌, ◌≤◌, ◌⊎◌, map, length, MatchOption};
+ghost use Rattle.std.specs.Prelude.{◌≡◌, ◌+◌, ◌<◌, ◌≤◌, ◌⊎◌, map, length, MatchResult};
 ghost use Rattle.std.proofs.Common.{arith};
 ghost use Rattle.std.proofs.lemmas.List.{length-map};
 ghost use Rattle.banks.specs.Lists.{lawful_row};
@@ -8,19 +8,14 @@ use super::Listed;
 use crate::bank::Bank;
 use crate::refusal::BankRefusal;
 use agreements::{Agreement, Dues};
-use metering::Reading;
+use metering::{Reading, index_of};
 
 impl<T> Listed<T> {
-    // Where the agreement of a place stands in the list, if there is such a place.
-    fn index_of(&self, place: u8) -> Option<usize>
-        ensures { MatchOption result ((place ≡ 0) ⊎ (length self.now.list.items < place)) (λ i. (i + 1 ≡ place) × (place ≤ length self.now.list.items)) }
+    // Where the agreement of a place stands in the list.
+    fn index_of(&self, place: u8) -> Result<usize, BankRefusal>
+        ensures { MatchResult result (λ i. (i + 1 ≡ place) × (place ≤ length self.now.list.items)) (λ e. ((place ≡ 0) ⊎ (length self.now.list.items < place)) × (e ≡ BankRefusal.NoPlace)) }
     {
-        let place = usize::from(place);
-        if 1 <= place && place <= self.list.len() {
-            Some(place - 1)
-        } else {
-            None
-        }
+        index_of(usize::from(place), self.list.len()).ok_or(BankRefusal::NoPlace)
     }
 }
 
@@ -36,11 +31,10 @@ impl<T: Agreement> Bank for Listed<T> {
     }
 
     fn ask_at(&self, place: u8, reading: &Reading, table: &mut Dues) -> Result<(), BankRefusal> {
-        let Some(index) = self.index_of(place) else {
-            return Err(BankRefusal::NoPlace);
-        };
-        self.list[index].ask(reading, table)?;
-        Ok(())
+        let index = self.index_of(place)?;
+        self.list[index]
+            .ask(reading, table)
+            .map_err(BankRefusal::from)
     }
 
     fn book_at(
@@ -49,10 +43,9 @@ impl<T: Agreement> Bank for Listed<T> {
         reading: &Reading,
         table: &mut Dues,
     ) -> Result<(), BankRefusal> {
-        let Some(index) = self.index_of(place) else {
-            return Err(BankRefusal::NoPlace);
-        };
-        self.list[index].book(reading, table)?;
-        Ok(())
+        let index = self.index_of(place)?;
+        self.list[index]
+            .book(reading, table)
+            .map_err(BankRefusal::from)
     }
 }

@@ -32,9 +32,8 @@ impl<T> Listed<T> {
         if self.list.len() >= usize::from(PLACES) {
             return Err(Unplaced::Full(agreement));
         }
-        match self.list.push(agreement) {
-            Ok(()) => Ok(()),
-            Err(back) => Err(Unplaced::NoMemory(back.value)),
-        }
+        self.list
+            .push(agreement)
+            .map_err(|back| Unplaced::NoMemory(back.value))
     }
 }

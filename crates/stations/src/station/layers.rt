@@ -13,15 +13,14 @@ impl Agreement for Station {
     ghost lawful = { λ s r. lawful_layered s.factors.items (base_meaning s.base) r (base_lawful s.base r) };
 
     fn layer(&self) -> u8 {
-        self.factors.len().min(usize::from(LAYER_LIMIT)) as u8
+        u8::try_from(self.factors.len()).unwrap_or(LAYER_LIMIT)
     }
 
     fn ask(&self, reading: &Reading, table: &mut Dues) -> Result<(), Fault> {
         let mut dues = Dues::empty();
         self.base.ask(reading, &mut dues)?;
         let mut layer = self.base.layer();
-        let factors = self.factors.as_slice();
-        for factor in factors {
+        for factor in &self.factors {
             layer = layer_above(layer);
             dues = indexed_dues(&dues, Factor::new(*factor), layer)?;
         }
@@ -31,10 +30,7 @@ impl Agreement for Station {
 
     // The bottom is booked only once every layer has admitted the reading.
     fn book(&mut self, reading: &Reading, table: &mut Dues) -> Result<(), Fault> {
-        let mut dues = Dues::empty();
-        self.ask(reading, &mut dues)?;
-        self.base.book(reading, table)?;
-        *table = dues;
-        Ok(())
+        self.ask(reading, table)?;
+        self.base.book(reading, &mut Dues::empty())
     }
 }

@@ -4,6 +4,7 @@ ghost use Rattle.stations.specs.Figures.{figures_fit, figured};
 ghost use Rattle.stations.specs.Layers.{layered, station_meaning};
 
 use super::Station;
+use crate::base::Base;
 use crate::figures::Figures;
 use agreements::OverLimit;
 
@@ -12,7 +13,9 @@ impl Station {
     pub fn new(figures: Figures, factors: Vec<u64>) -> Result<Station, OverLimit>
         ensures { Makes (figures_fit figures) station_meaning (layered factors.items (figured figures)) result }
     {
-        let base = figures.base()?;
-        Ok(Station { base, factors })
+        Ok(Station {
+            base: Base::try_from(figures)?,
+            factors,
+        })
     }
 }

@@ -1,40 +1,11 @@
-use Rattle.std.proofs.Common.{arith, rules}
-use Rattle.banks.specs.Sides.{at_left, at_right, at_beyond, books_left, books_right, books_beyond}
 use Rattle.banks.proofs.beside.BesideBank.book_at.Goals as goal
 
-pub returns-in_err-book_at : goal.returns-in_err-book_at
-returns-in_err-book_at g c =
-    let l = g.L.Bank.row c.args.self.now.left in
-    let r = g.R.Bank.row c.args.self.now.right in
-    let few = g.met.L.Bank.few c.args.self.now.left in
-    let e = at_left l r c.args.place few (omega arith) in
-    record { answered = search rules; wrote = search rules; moves = books_left l r c.args.reading.now c.args.place _ few (omega arith) c.book_at.ensures.moves }
+pub returns-in-Left-clause-moves : goal.returns-in-Left-clause-moves
+returns-in-Left-clause-moves g c =
+    let on = rw c.in-Left.is at c.in_ok-there.ensures in
+    on.books _ _ c.book_at.ensures.moves
 
-pub returns-then-place-left : goal.returns-then-place-left
-returns-then-place-left g c =
-    let l = g.L.Bank.row c.args.self.now.left in
-    let r = g.R.Bank.row c.args.self.now.right in
-    let few = g.met.L.Bank.few c.args.self.now.left in
-    let e = at_left l r c.args.place few (omega arith) in
-    record { answered = search rules; wrote = search rules; moves = books_left l r c.args.reading.now c.args.place _ few (omega arith) c.book_at.ensures.moves }
-
-pub returns-then-place-gt-PLACES : goal.returns-then-place-gt-PLACES
-returns-then-place-gt-PLACES g c =
-    let l = g.L.Bank.row c.args.self.now.left in
-    let r = g.R.Bank.row c.args.self.now.right in
-    let e = at_beyond l r c.args.place (omega arith) in
-    record { answered = search rules; wrote = search rules; moves = books_beyond l r c.args.reading.now c.args.place (omega arith) }
-
-pub returns-in_err-book_at-2 : goal.returns-in_err-book_at-2
-returns-in_err-book_at-2 g c =
-    let l = g.L.Bank.row c.args.self.now.left in
-    let r = g.R.Bank.row c.args.self.now.right in
-    let e = at_right l r c.args.place (omega arith) (omega arith) in
-    record { answered = search rules; wrote = search rules; moves = books_right l r c.args.reading.now c.args.place _ _ c.places-left.ensures (omega arith) (omega arith) c.book_at-2.ensures.moves }
-
-pub returns : goal.returns
-returns g c =
-    let l = g.L.Bank.row c.args.self.now.left in
-    let r = g.R.Bank.row c.args.self.now.right in
-    let e = at_right l r c.args.place (omega arith) (omega arith) in
-    record { answered = search rules; wrote = search rules; moves = books_right l r c.args.reading.now c.args.place _ _ c.places-left.ensures (omega arith) (omega arith) c.book_at-2.ensures.moves }
+pub returns-in-Right-clause-moves : goal.returns-in-Right-clause-moves
+returns-in-Right-clause-moves g c =
+    let on = rw c.in-Right.is at c.in_ok-there.ensures in
+    on.books _ _ c.book_at-in-Right.ensures.moves

@@ -1,4 +1,4 @@
-use Rattle.std.proofs.Common.{vec_items, arith}
+use Rattle.std.proofs.Common.{vec_items, rules, arith}
 use Rattle.stations.specs.Layers.{base_meaning}
 use Rattle.stations.specs.Layering.{base_layer, layer_layered}
 use Rattle.stations.proofs.station.layers.StationAgreement.layer.Goals as goal
@@ -7,4 +7,5 @@ pub returns : goal.returns
 returns c =
     let s = c.args.self.now in
     let bottom = base_layer s.base in
-    omega (arith, layer_layered (vec_items s.factors) (base_meaning s.base) (omega arith), s.factors.ok.0)
+    let is = layer_layered (vec_items s.factors) (base_meaning s.base) (omega arith) in
+    search rules
