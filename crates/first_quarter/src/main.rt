@@ -9,7 +9,7 @@ use crate::market::{Stations, stations};
 use agreements::TwoPart;
 use anyhow::anyhow;
 use banks::{Bank, One};
-use history::{Answer, Call, Orders, Performance, Unperformed, perform};
+use history::{Answer, Call, Performance, Unperformed, perform, perform_alone};
 use house::House;
 use methodology::ThreeIntervals;
 use printout::Printer;
@@ -25,24 +25,8 @@ const OTHER_SERIAL: u64 = 2;
 
 type Quarter = House<Stations, ThreeIntervals>;
 
-type Other = Performance<One<TwoPart>, ThreeIntervals>;
-
 // Another house, with an order that it drew in hand.
-fn other_house(heap: Global, station: TwoPart, calls: &[Call]) -> Result<Other, Unperformed> {
-    let mut none = Orders::with_room(heap, 0)?;
-    let outcome = perform(
-        heap,
-        One::new(station),
-        ThreeIntervals,
-        OTHER_SERIAL,
-        calls,
-        &mut none,
-    );
-    match none.end() {
-        Ok(()) => outcome,
-        Err(_) => unreachable!(),
-    }
-}
+type Other = Performance<One<TwoPart>, ThreeIntervals>;
 
 // Prints a call's line, and under an accepted closing the sheet.
 fn print_call(
@@ -78,20 +62,10 @@ fn print_places(rt: &HostRuntime, house: &Quarter, places: u8) -> anyhow::Result
 fn perform_quarter(
     heap: Global,
     bank: Stations,
-    other: Other,
+    mut other: Other,
     calls: &[Call],
 ) -> Result<(Quarter, Vec<Answer>), Unperformed> {
-    let Performance {
-        house,
-        answers,
-        mut hand,
-    } = other;
-    let outcome = perform(heap, bank, ThreeIntervals, SERIAL, calls, &mut hand);
-    let other = Performance {
-        house,
-        answers,
-        hand,
-    };
+    let outcome = perform(heap, bank, ThreeIntervals, SERIAL, calls, &mut other.hand);
     let (_house, _answers) = other.hold_all();
     Ok(outcome?.hold_all())
 }
@@ -104,9 +78,8 @@ fn run(rt: &HostRuntime) -> anyhow::Result<()> {
     up_to_an_order(&mut other_calls)?;
     let bank = stations()?;
     let places = bank.places();
-    let Ok(other) = other_house(heap, agreement(), &other_calls) else {
-        return Err(anyhow!("the other house's calls are not performed"));
-    };
+    let station = One::new(agreement());
+    let other = perform_alone(heap, station, ThreeIntervals, OTHER_SERIAL, &other_calls)?;
     let Ok((house, answers)) = perform_quarter(heap, bank, other, &calls) else {
         return Err(anyhow!("the calls are not performed"));
     };

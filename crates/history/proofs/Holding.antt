@@ -1,5 +1,5 @@
 -- Orders in hand are held one after another.
-use Rattle.std.proofs.Common.{◌≡◌, ℕ, ◌+◌, ◌*◌, ◌≤◌, true, List, [], ◌∷◌, ◌++◌, Ok, Err, sym, refl, ap, ◌∙◌, arith}
+use Rattle.std.proofs.Common.{◌≡◌, ℕ, ◌+◌, ◌*◌, ◌≤◌, true, List, [], ◌∷◌, ◌++◌, is_ok, Ok, Err, Result, sym, refl, ap, ◌∙◌, arith}
 use Rattle.std.proofs.lemmas.Bool.{eqb-true, eq-eqb, le-leb, and_parts, and_from, false≢true}
 use Rattle.orders.specs.declared.order.PayOrder.{PayOrder}
 use Rattle.orders.specs.declared.order.Returned.{Returned}
@@ -36,8 +36,10 @@ module _ (v : View) (os : List PayOrder) (o : PayOrder) (w : View) (i : Holding 
       let cents = cents_here o in
       and_from _ _ (eq-eqb o.serial (till_of w).serial (all_but_last (till_of w).serial os o i.own).1) (le-leb o.cents (ordered_at (till_of w) o.place) (omega arith))
 
-  pub not_returned : (back : Returned) (u : View) → calls.Hold w o (Err back) u → ⊥
-  not_returned back u m = false≢true (sym m.held.not_mine ∙ last_mine)
+  -- and so the house takes it in
+  pub taken_in : (r : Result (Unit {0}) Returned) (u : View) → calls.Hold w o r u → is_ok r ≡ true
+  taken_in (Ok x) u m = refl
+  taken_in (Err back) u m = absurd (false≢true (sym m.held.not_mine ∙ last_mine))
 
   pub held_one : (u : View) → calls.Hold w o (Ok tt) u → Holding v os u
   held_one u m =

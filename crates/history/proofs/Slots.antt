@@ -1,13 +1,15 @@
 -- Orders under numbers, taken out and put back.
-use Rattle.std.proofs.Common.{◌≡◌, ℕ, zero, suc, ◌+◌, ◌-◌, ◌<◌, ◌≤◌, ◌||◌, leb, ◌⊎◌, List, [], ◌∷◌, ◌++◌, length, get_or, drop, set, is_some, Some, None, Err, Option, unwrap_or, sym, refl, ap, ◌∙◌, subst, inl, inr, ⊎_elim, arith}
+use Rattle.std.proofs.Common.{◌≡◌, ℕ, zero, suc, ◌+◌, ◌-◌, ◌<◌, ◌≤◌, ◌||◌, leb, ◌⊎◌, List, [], ◌∷◌, ◌++◌, length, get_or, set, is_some, Some, None, Ok, Err, Option, Result, unwrap_or, sym, refl, ap, ◌∙◌, subst, inl, inr, ⊎_elim, arith}
 use Rattle.std.proofs.lemmas.Bool.{le-leb, lt-leb, cond-true, cond-false, cases_lt, false≢true}
-use Rattle.std.proofs.lemmas.List.{get_or_past, drop_more}
+use Rattle.std.proofs.lemmas.List.{get_or_past, get_or_default}
+use Rattle.std.specs.List.{list_any}
 use Rattle.orders.specs.declared.order.PayOrder.{PayOrder}
 use Rattle.orders.specs.declared.order.Returned.{Returned}
 use Rattle.ledger.specs.Views.{View}
 use Rattle.history.specs.declared.call.Spending.{Spending}
 use Rattle.history.specs.declared.call.Spending.TheVariants.{Release, Hold}
-use Rattle.history.specs.Presenting.{Spends}
+use Rattle.history.specs.declared.answer.Answer.{Answer}
+use Rattle.history.specs.Presenting.{Spends, PutsBack, PresentsAt, After, Presentation}
 use Rattle.ledger.specs.Runs.{Among, first, later}
 use Rattle.history.specs.Bearing.{slot_bears, any_bears}
 use Rattle.history.specs.Slots.{slot, without, in_slots}
@@ -37,10 +39,10 @@ nothing_lost [] i h = refl
 nothing_lost (x ∷ slots) zero h = ap (λ y. y ∷ slots) (sym h)
 nothing_lost (x ∷ slots) (suc i) h = ap (λ ys. x ∷ ys) (nothing_lost slots i h)
 
-put_again : (slots : Slots) (i : ℕ) (o : PayOrder) → get_or slots i None ≡ Some o → set (set slots i None) i (Some o) ≡ slots
-put_again [] i o h = refl
-put_again (x ∷ slots) zero o h = ap (λ y. y ∷ slots) (sym h)
-put_again (x ∷ slots) (suc i) o h = ap (λ ys. x ∷ ys) (put_again slots i o h)
+there_already : (slots : Slots) (i : ℕ) (o : PayOrder) → get_or slots i None ≡ Some o → set slots i (Some o) ≡ slots
+there_already [] i o h = refl
+there_already (x ∷ slots) zero o h = ap (λ y. y ∷ slots) (sym h)
+there_already (x ∷ slots) (suc i) o h = ap (λ ys. x ∷ ys) (there_already slots i o h)
 
 as_long : (slots : Slots) (i : ℕ) (x : Option PayOrder) → length (set slots i x) ≡ length slots
 as_long [] i x = refl
@@ -84,20 +86,32 @@ without_none slots number h =
     (λ (some : 1 ≤ number). without_is slots number some ∙ nothing_lost slots (number - 1) (sym (slot_is slots number some) ∙ h))
     (cases_lt number 1)
 
--- an order that is taken out leaves its number free
-pub taken_slot : (slots : Slots) (number : ℕ) → 1 ≤ number → slot (without slots number) number ≡ None
-taken_slot slots number some =
-    slot_is (without slots number) number some ∙ ap (λ xs. get_or xs (number - 1) None) (without_is slots number some) ∙ emptied slots (number - 1)
-
 pub without_long : (slots : Slots) (number : ℕ) → 1 ≤ number → length (without slots number) ≡ length slots
 without_long slots number some = ap length (without_is slots number some) ∙ as_long slots (number - 1) None
 
--- and goes back where it was
-pub back_again : (slots taken after : Slots) (number : ℕ) (o q : PayOrder) → slot slots number ≡ Some o → q ≡ o → taken ≡ without slots number → after ≡ set taken (number - 1) (Some q) → after ≡ slots
-back_again slots taken after number o q h same gone put =
-    let there = numbered slots number o h in
-    put ∙ ap (λ x. set taken (number - 1) (Some x)) same ∙ ap (λ xs. set xs (number - 1) (Some o)) (gone ∙ without_is slots number there.0)
-    ∙ put_again slots (number - 1) o there.2
+-- the order with a number, by its place in the list, which counts from 0
+at_number : (slots : Slots) (i number : ℕ) (x : Option PayOrder) → i + 1 ≡ number → number ≤ length slots → x ≡ get_or slots i x → slot slots number ≡ x
+at_number slots i number x at within is =
+    let e : number - 1 ≡ i = omega arith in
+    slot_is slots number (omega arith) ∙ ap (λ k. get_or slots k None) e ∙ get_or_default slots i None x (omega arith) ∙ sym is
+
+emptied_at : (slots : Slots) (i number : ℕ) → i + 1 ≡ number → set slots i None ≡ without slots number
+emptied_at slots i number at =
+    let e : i ≡ number - 1 = omega arith in
+    ap (λ k. set slots k None) e ∙ sym (without_is slots number (omega arith))
+
+after_it : (slots slots' : Slots) (i number : ℕ) (o : PayOrder) (x' : Option PayOrder) (r : Result Answer Returned) (a : Answer) → i + 1 ≡ number → get_or slots i None ≡ Some o → slots' ≡ set slots i x' → PutsBack o r a x' → After slots number r a slots'
+after_it slots slots' i number o x' (Ok told) a at there put (same, gone) = (same, put ∙ ap (λ y. set slots i y) gone ∙ emptied_at slots i number at)
+after_it slots slots' i number o x' (Err back) a at there put (same, again) = (same, put ∙ ap (λ y. set slots i y) again ∙ there_already slots i o there)
+
+-- an order presented from its slot is presented by its number
+pub presented : (how : Spending) (slots slots' : Slots) (i number : ℕ) (x x' : Option PayOrder) (v w : View) (a : Answer) → i + 1 ≡ number → number ≤ length slots → x ≡ get_or slots i x → slots' ≡ set slots i x' → PresentsAt how x v a x' w → Presentation how number slots v a slots' w
+presented how slots slots' i number None x' v w a at within is put (absent, gone, same) =
+    let nothing = at_number slots i number None at within is in
+    inl record { nowhere = nothing; told = absent; same_slots = put ∙ ap (λ y. set slots i y) gone ∙ emptied_at slots i number at ∙ without_none slots number nothing; same_house = same }
+presented how slots slots' i number (Some o) x' v w a at within is put (r, spent, back) =
+    let here : get_or slots i None ≡ Some o = get_or_default slots i None (Some o) (omega arith) ∙ sym is in
+    inr (o, r, record { there = at_number slots i number (Some o) at within is; spent = spent; after = after_it slots slots' i number o x' r a at here put back })
 
 -- the order with a number is among those that are there, and the others stay
 pub among_slots : (slots : Slots) (number : ℕ) (o : PayOrder) → slot slots number ≡ Some o → Among o (in_slots slots) (in_slots (without slots number))
@@ -125,7 +139,7 @@ pub none_left : (slots : Slots) → length slots ≤ 0 → slots ≡ []
 none_left [] h = refl
 none_left (x ∷ slots) h = absurd (omega arith)
 
--- whether an order bears a serial, from a place of the list on
-pub bears_from : (serial : ℕ) (slots : Slots) (i : ℕ) (x : Option PayOrder) → i < length slots → x ≡ get_or slots i x → any_bears serial (drop i slots) ≡ (slot_bears serial x || any_bears serial (drop (i + 1) slots))
-bears_from serial slots i x h is =
-    ap (any_bears serial) (drop_more slots i x h) ∙ ap (λ y. slot_bears serial y || any_bears serial (drop (i + 1) slots)) (sym is)
+-- whether some order bears a serial, in the words of std
+pub any_bears_list : (serial : ℕ) (slots : Slots) → list_any (slot_bears serial) slots ≡ any_bears serial slots
+any_bears_list serial [] = refl
+any_bears_list serial (x ∷ slots) = ap (λ b. slot_bears serial x || b) (any_bears_list serial slots)

@@ -18,6 +18,15 @@ Spends Release v o (Err back) w = calls.Release v o (Err back) w
 Spends Hold v o (Ok a) w = (a ≡ Accepted) × calls.Hold v o (Ok tt) w
 Spends Hold v o (Err back) w = calls.Hold v o (Err back) w
 
+-- the same of what stands in a slot: an order that comes back is put there again
+abbrev pub PutsBack : PayOrder → Result Answer Returned → Answer → Option PayOrder → Type 0
+PutsBack o (Ok told) a x' = (a ≡ told) × (x' ≡ None)
+PutsBack o (Err back) a x' = (a ≡ CameBack) × (x' ≡ Some o)
+
+abbrev pub PresentsAt : Spending → Option PayOrder → View → Answer → Option PayOrder → View → Type 0
+PresentsAt how None v a x' w = (a ≡ Absent) × (x' ≡ None) × (w ≡ v)
+PresentsAt how (Some o) v a x' w = (r : Result Answer Returned) × Spends how v o r w × PutsBack o r a x'
+
 -- the order was there, and was presented: taken in it is gone, and else it is where it was
 abbrev pub After : List (Option PayOrder) → ℕ → Result Answer Returned → Answer → List (Option PayOrder) → Type 0
 After slots number (Ok told) a slots' = (a ≡ told) × (slots' ≡ without slots number)

@@ -23,6 +23,10 @@ in_slots [] = []
 in_slots (None ∷ slots) = in_slots slots
 in_slots (Some o ∷ slots) = o ∷ in_slots slots
 
+-- these slots are left, in the room that there was
+abbrev pub Leaves : Orders → List (Option PayOrder) → Orders → Type 0
+Leaves before slots after = (slots_of after ≡ slots) × (room_in after ≡ room_in before)
+
 -- an order more under the next number, or back where there is no room
 abbrev pub Adds : Orders → PayOrder → Result (Unit {0}) PayOrder → Orders → Type 0
 Adds before o (Ok _) after = (length (slots_of before) < room_in before) × (slots_of after ≡ slots_of before ++ (Some o ∷ [])) × (room_in after ≡ room_in before)

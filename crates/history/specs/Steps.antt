@@ -1,6 +1,9 @@
 -- What a call of a list answers in plain numbers.
-use Rattle.std.specs.Prelude.{◌≡◌, ℕ, List, Ok, Err, Option, Result}
+use Rattle.std.specs.Prelude.{◌≡◌, ℕ, ◌+◌, ◌≤◌, length, List, Ok, Err, Option, Result}
 use Rattle.metering.specs.declared.reading.Reading.{Reading}
+use Rattle.agreements.specs.Meaning.{Meaning}
+use Rattle.methodology.specs.Meaning.{Meaning as Market}
+use Rattle.methodology.specs.declared.shape.Shape.{Shape}
 use Rattle.banks.specs.Rows.{at_place}
 use Rattle.accounts.specs.declared.sheet.Sheet.{Sheet}
 use Rattle.orders.specs.declared.order.PayOrder.{PayOrder}
@@ -8,10 +11,13 @@ use Rattle.ledger.specs.declared.refusal.Refusal.{Refusal}
 use Rattle.ledger.specs.Views.{View}
 use Rattle.ledger.specs.Terms.{worth, dues_at}
 use Rattle.ledger.specs.Calls as calls
+use Rattle.history.specs.declared.call.Call.{Call}
 use Rattle.history.specs.declared.call.Stated.{Stated}
 use Rattle.history.specs.declared.answer.Answer.{Answer}
 use Rattle.history.specs.declared.answer.Answer.TheVariants.{Metered, Closed, Drawn, Refused}
-use Rattle.history.specs.Histories.{hand_drawn}
+use Rattle.history.specs.declared.numbered.Orders.{Orders}
+use Rattle.history.specs.Slots.{slots_of, room_in}
+use Rattle.history.specs.Histories.{hand_drawn, Next}
 
 -- a reading with its dues
 abbrev pub meter_told : View → Reading → Result (Unit {0}) Refusal → Answer
@@ -36,3 +42,10 @@ draw_told (Err why) = Refused why
 
 abbrev pub Draws : View → ℕ → List (Option PayOrder) → Answer → List (Option PayOrder) → View → Type 0
 Draws v place hand a hand' w = (r : Result PayOrder Refusal) × (a ≡ draw_told r) × (hand' ≡ hand_drawn r hand) × calls.Draw v place r w
+
+-- a call more is made: what was performed before it is performed with it, the orders of other houses stay where they are, and one order more is in hand at most
+pub record Stepped (c : Call) (a : Answer) (v : View) (hand others : Orders) (w : View) (hand' others' : Orders) : Type 0 where
+  pub next : (shape : Shape) (market : Market) (row : List Meaning) (serial : ℕ) → Next shape market row serial (slots_of others) c a (slots_of hand) v (slots_of hand') w
+  pub others_stay : slots_of others' ≡ slots_of others
+  pub long : length (slots_of hand') ≤ length (slots_of hand) + 1
+  pub room : room_in hand' ≡ room_in hand

@@ -11,5 +11,5 @@ pub mod stepping;
 pub use answer::Answer;
 pub use call::{Call, Named, Spending, Stated};
 pub use numbered::Orders;
-pub use performing::perform::perform;
+pub use performing::perform::{perform, perform_alone};
 pub use performing::{Performance, Unperformed};

@@ -5,5 +5,5 @@ pub mod keeping;
 
 // Each order stands at its number, counted from 1, until it is taken out. No order can be let go, and so neither can these.
 pub struct Orders {
-    slots: Vec<Option<PayOrder>>,
+    pub(crate) slots: Vec<Option<PayOrder>>,
 }

@@ -1,14 +1,15 @@
 // Presenting orders.
-ghost use Rattle.std.specs.Prelude.{◌≡◌, MatchResult};
+ghost use Rattle.std.specs.Prelude.{◌≡◌};
 ghost use Rattle.house.specs.Shown.{shows};
 ghost use Rattle.history.specs.Slots.{slots_of, room_in};
-ghost use Rattle.history.specs.Presenting.{Spends, Presentation};
+ghost use Rattle.history.specs.Presenting.{Spends, PresentsAt, Presentation};
 
 use crate::answer::Answer;
 use crate::call::Spending;
 use crate::numbered::Orders;
 use banks::Bank;
 use house::House;
+use metering::index_of;
 use methodology::Methodology;
 use orders::{PayOrder, Returned};
 
@@ -32,6 +33,26 @@ fn spend<B: Bank, M: Methodology>(
     }
 }
 
+// Presents the order of a slot; one that is not the house's own is put back there.
+fn present_at<B: Bank, M: Methodology>(
+    house: &mut House<B, M>,
+    slot: &mut Option<PayOrder>,
+    how: Spending,
+) -> Answer
+    ensures { PresentsAt how slot.old (shows B.Bank M.Methodology house.old) result slot.new (shows B.Bank M.Methodology house.new) }
+{
+    let Some(order) = slot.take() else {
+        return Answer::Absent;
+    };
+    match spend(house, order, how) {
+        Ok(answer) => answer,
+        Err(Returned { order }) => {
+            *slot = Some(order);
+            Answer::Returned
+        }
+    }
+}
+
 // Presents the order with a number; one that is not the house's own stays where it was.
 pub fn present<B: Bank, M: Methodology>(
     house: &mut House<B, M>,
@@ -42,15 +63,8 @@ pub fn present<B: Bank, M: Methodology>(
     ensures done { Presentation how number (slots_of orders.old) (shows B.Bank M.Methodology house.old) result (slots_of orders.new) (shows B.Bank M.Methodology house.new) }
     ensures room { room_in orders.new ≡ room_in orders.old }
 {
-    let Some(order) = orders.take(number) else {
-        return Answer::Absent;
-    };
-    match spend(house, order, how) {
-        Ok(answer) => answer,
-        Err(back) => {
-            let Returned { order } = back;
-            orders.put_back(number, order);
-            Answer::Returned
-        }
+    match index_of(number, orders.slots.len()) {
+        Some(index) => present_at(house, &mut orders.slots[index], how),
+        None => Answer::Absent,
     }
 }

@@ -1,16 +1,11 @@
 // One call of a list.
-ghost use Rattle.std.specs.Prelude.{◌≡◌, ℕ, ◌+◌, ◌<◌, ◌≤◌, List, length};
-ghost use Rattle.agreements.specs.Meaning.{Meaning};
-ghost use Rattle.methodology.specs.Meaning.{Meaning as Market};
-ghost use Rattle.methodology.specs.declared.shape.Shape.{Shape as Counts};
-ghost use Rattle.orders.specs.declared.till.Till.{Till};
+ghost use Rattle.std.specs.Prelude.{◌≡◌, ◌<◌, length};
 ghost use Rattle.ledger.specs.Views.{till_of};
 ghost use Rattle.house.specs.Shown.{shows};
-ghost use Rattle.history.specs.declared.call.Call.TheVariants.{Present};
 ghost use Rattle.history.specs.Slots.{slots_of, room_in};
-ghost use Rattle.history.specs.Histories.{told, Next};
+ghost use Rattle.history.specs.Histories.{told};
 ghost use Rattle.history.specs.Bearing.{Foreign};
-ghost use Rattle.history.specs.Steps.{Meters, Closes, Draws};
+ghost use Rattle.history.specs.Steps.{Meters, Closes, Draws, Stepped};
 
 use crate::answer::Answer;
 use crate::call::{Call, Named, Spending, Stated};
@@ -24,12 +19,14 @@ use metering::Reading;
 use methodology::Methodology;
 
 // The answer of a call that says no more than whether it was accepted.
-fn plain(answer: Result<(), Refusal>) -> Answer
-    ensures { result ≡ told answer }
-{
-    match answer {
-        Ok(()) => Answer::Accepted,
-        Err(why) => Answer::Refused(why),
+impl From<Result<(), Refusal>> for Answer {
+    ghost from_gives = { λ r a. a ≡ told r };
+
+    fn from(answer: Result<(), Refusal>) -> Answer {
+        match answer {
+            Ok(()) => Answer::Accepted,
+            Err(why) => Answer::Refused(why),
+        }
     }
 }
 
@@ -55,63 +52,55 @@ fn close<B: Bank, M: Methodology>(house: &mut House<B, M>, stated: Stated) -> An
     }
 }
 
-// Draws, and keeps the order in hand under the next number.
-fn draw<B: Bank, M: Methodology>(house: &mut House<B, M>, hand: &mut Orders, place: u8) -> Answer
-    requires { length (slots_of hand.old) < room_in hand.old }
-    ensures drawn { Draws (shows B.Bank M.Methodology house.old) place (slots_of hand.old) result (slots_of hand.new) (shows B.Bank M.Methodology house.new) }
-    ensures room { room_in hand.new ≡ room_in hand.old }
-{
-    match house.draw(place) {
-        Ok(order) => {
-            let answer = Answer::Drawn(order.place(), order.cents());
-            hand.keep(order);
-            answer
+// A house at work on a list of calls, with the orders that it has in hand. Those of other houses are passed beside it, since
+// a struct cannot keep a fact about what it only borrows to change.
+pub(crate) struct Desk<B, M> {
+    pub(crate) house: House<B, M>,
+    pub(crate) hand: Orders,
+}
+
+impl<B: Bank, M: Methodology> Desk<B, M> {
+    // Draws, and keeps the order in hand under the next number.
+    fn draw(&mut self, place: u8) -> Answer
+        requires { length (slots_of self.old.hand) < room_in self.old.hand }
+        ensures drawn { Draws (shows B.Bank M.Methodology self.old.house) place (slots_of self.old.hand) result (slots_of self.new.hand) (shows B.Bank M.Methodology self.new.house) }
+        ensures room { room_in self.new.hand ≡ room_in self.old.hand }
+    {
+        match self.house.draw(place) {
+            Ok(order) => {
+                let answer = Answer::Drawn(order.place(), order.cents());
+                self.hand.keep(order);
+                answer
+            }
+            Err(why) => Answer::Refused(why),
         }
-        Err(why) => Answer::Refused(why),
     }
-}
 
-// Presents the order that is named.
-fn present_named<B: Bank, M: Methodology>(
-    house: &mut House<B, M>,
-    hand: &mut Orders,
-    others: &mut Orders,
-    how: Spending,
-    which: Named,
-) -> Answer
-    requires { Foreign (till_of (shows B.Bank M.Methodology house.old)).serial (slots_of others.old) }
-    ensures next { (shape : Counts) (market : Market) (row : List Meaning) (serial : ℕ) → Next shape market row serial (slots_of others.old) (Present how which) result (slots_of hand.old) (shows B.Bank M.Methodology house.old) (slots_of hand.new) (shows B.Bank M.Methodology house.new) }
-    ensures others { slots_of others.new ≡ slots_of others.old }
-    ensures long { length (slots_of hand.new) ≡ length (slots_of hand.old) }
-    ensures room { room_in hand.new ≡ room_in hand.old }
-{
-    match which {
-        Named::Drawn(number) => present(house, hand, number, how),
-        Named::Other(number) => present(house, others, number, how),
+    // Presents the order that is named.
+    fn present(&mut self, others: &mut Orders, how: Spending, which: Named) -> Answer
+        requires { Foreign (till_of (shows B.Bank M.Methodology self.old.house)).serial (slots_of others.old) }
+        ensures { Stepped (Call.Present how which) result (shows B.Bank M.Methodology self.old.house) self.old.hand others.old (shows B.Bank M.Methodology self.new.house) self.new.hand others.new }
+    {
+        match which {
+            Named::Drawn(number) => present(&mut self.house, &mut self.hand, number, how),
+            Named::Other(number) => present(&mut self.house, others, number, how),
+        }
     }
-}
 
-// Makes one call. Where the order that it names is not there, there is no call to make.
-pub(crate) fn step<B: Bank, M: Methodology>(
-    house: &mut House<B, M>,
-    hand: &mut Orders,
-    others: &mut Orders,
-    call: &Call,
-) -> Answer
-    requires room { length (slots_of hand.old) < room_in hand.old }
-    requires foreign { Foreign (till_of (shows B.Bank M.Methodology house.old)).serial (slots_of others.old) }
-    ensures next { (shape : Counts) (market : Market) (row : List Meaning) (serial : ℕ) → Next shape market row serial (slots_of others.old) call.now result (slots_of hand.old) (shows B.Bank M.Methodology house.old) (slots_of hand.new) (shows B.Bank M.Methodology house.new) }
-    ensures others { slots_of others.new ≡ slots_of others.old }
-    ensures long { length (slots_of hand.new) ≤ length (slots_of hand.old) + 1 }
-    ensures room { room_in hand.new ≡ room_in hand.old }
-{
-    match *call {
-        Call::Year(given) => plain(house.year(&given)),
-        Call::Tariff(given) => plain(house.tariff(&given)),
-        Call::Meter(given) => meter(house, &given),
-        Call::Deliver(given) => plain(house.deliver(&given)),
-        Call::Close(stated) => close(house, stated),
-        Call::Draw(place) => draw(house, hand, place),
-        Call::Present(how, which) => present_named(house, hand, others, how, which),
+    // Makes one call. Where the order that it names is not there, there is no call to make.
+    pub(crate) fn step(&mut self, others: &mut Orders, call: &Call) -> Answer
+        requires room { length (slots_of self.old.hand) < room_in self.old.hand }
+        requires foreign { Foreign (till_of (shows B.Bank M.Methodology self.old.house)).serial (slots_of others.old) }
+        ensures { Stepped call.now result (shows B.Bank M.Methodology self.old.house) self.old.hand others.old (shows B.Bank M.Methodology self.new.house) self.new.hand others.new }
+    {
+        match *call {
+            Call::Year(given) => self.house.year(&given).into(),
+            Call::Tariff(given) => self.house.tariff(&given).into(),
+            Call::Meter(given) => meter(&mut self.house, &given),
+            Call::Deliver(given) => self.house.deliver(&given).into(),
+            Call::Close(stated) => close(&mut self.house, stated),
+            Call::Draw(place) => self.draw(place),
+            Call::Present(how, which) => self.present(others, how, which),
+        }
     }
 }

@@ -21,7 +21,7 @@ fn after_month(number: u8) -> Stage
 {
     if number == HALF_YEAR {
         Stage::BeforeTariff(Half::Second)
-    } else if number as u64 >= MONTHS {
+    } else if u64::from(number) >= MONTHS {
         Stage::BeforeYear
     } else {
         Stage::InMonth(number + 1)

@@ -18,11 +18,7 @@ use methodology::Methodology;
 fn in_month(stage: Stage) -> bool
     ensures { result ≡ in_month stage }
 {
-    match stage {
-        Stage::BeforeYear => false,
-        Stage::BeforeTariff(_) => false,
-        Stage::InMonth(_) => true,
-    }
+    matches!(stage, Stage::InMonth(_))
 }
 
 impl<B: Bank, M: Methodology> House<B, M> {

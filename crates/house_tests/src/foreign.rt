@@ -16,6 +16,7 @@ use tariffs::Row;
 // The number that the other house's orders bear.
 const OTHER: u64 = 8;
 
+// `worked_cases` has this market too, above crates that these tests have no use for.
 type Market = House<One<TwoPart>, ThreeIntervals>;
 
 // The other house takes its first reading, for which 5,500,000 grains are due.
@@ -33,29 +34,15 @@ fn answers_beside(
 ) -> (Result<Vec<Answer>, Unperformed>, PayOrder)
     ensures { result.1 ≡ order }
 {
-    let mut others = match Orders::with_room(heap, 1) {
-        Ok(others) => others,
-        Err(_) => return (Err(Unperformed::NoMemory), order),
+    let Ok(mut others) = Orders::with_room(heap, 1) else {
+        return (Err(Unperformed::NoMemory), order);
     };
-    match others.add(order) {
-        Ok(()) => {}
-        Err(_) => unreachable!(),
-    }
+    others.add(order).unwrap();
     let bank = One::new(agreement());
     let outcome = perform(heap, bank, ThreeIntervals, SERIAL, calls, &mut others);
-    let order = match others.take_last() {
-        Some(order) => order,
-        None => unreachable!(),
-    };
-    match others.end() {
-        Ok(()) => {}
-        Err(_) => unreachable!(),
-    }
-    let answers = match outcome {
-        Ok(performance) => Ok(performance.hold_all().1),
-        Err(why) => Err(why),
-    };
-    (answers, order)
+    let order = others.take_last().unwrap();
+    others.end().unwrap();
+    (outcome.map(|performance| performance.hold_all().1), order)
 }
 
 #[test]
@@ -72,16 +59,12 @@ fn an_order_of_another_house_comes_back(rt: HostRuntime) -> Result<(), Fail> {
     ];
     let mut other: Market = House::new(One::new(agreement()), ThreeIntervals, OTHER);
     metered(&mut other).map_err(|_| "the other house takes no reading")?;
-    let order = match other.draw(1) {
-        Ok(order) => order,
-        Err(_) => return Err("nothing stands at the place".into()),
+    let Ok(order) = other.draw(1) else {
+        return Err("nothing stands at the place".into());
     };
     let on_orders = other.ledger().till.money(1).on_orders;
     let (outcome, order) = answers_beside(rt.alloc(), order, &calls);
-    match other.hold(order) {
-        Ok(()) => {}
-        Err(_) => unreachable!(),
-    }
+    other.hold(order).unwrap();
     let answers = outcome?;
     assert!(rt;
         matches!(answers.get(3), Some(Answer::Drawn(1, 550))),

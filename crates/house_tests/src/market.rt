@@ -1,11 +1,11 @@
 // A market with one station and one licensee, and the calls that are made of its house.
 use accounts::Sheet;
 use banks::{Bank, One};
-use history::{Answer, Call, Orders, Stated, Unperformed, perform};
+use history::{Answer, Call, Stated, perform_alone};
 use ledger::Refusal;
 use metering::{BLOCKS, Figures, Kind, Reading, make_reading};
 use methodology::{Methodology, ThreeIntervals};
-use std::alloc::Global;
+use std::alloc::{AllocError, Global};
 pub use worked_figures::{agreement, sent, taken, tariff as filing};
 
 // The number that the house's pay orders bear.
@@ -26,10 +26,7 @@ pub fn metered(kind: Kind, number: u32, demand: u32, blocks: [u32; BLOCKS]) -> R
 
 // What a meter measured: kW, and kWh at 01:00, 06:00 and 19:00.
 pub fn reading_of(kind: Kind, number: u8, demand: u32, energies: [u32; 3]) -> Reading {
-    match worked_figures::measured(kind, number, demand, energies) {
-        Ok(reading) => reading,
-        Err(_) => Reading::empty(),
-    }
+    worked_figures::measured(kind, number, demand, energies).unwrap_or(Reading::empty())
 }
 
 // The same by a meter with number 1.
@@ -59,19 +56,13 @@ pub fn answers_of<B: Bank + Drop, M: Methodology + Drop>(
     bank: B,
     methodology: M,
     calls: &[Call],
-) -> Result<Vec<Answer>, Unperformed> {
-    let mut others = Orders::with_room(heap, 0)?;
-    let outcome = perform(heap, bank, methodology, SERIAL, calls, &mut others);
-    match others.end() {
-        Ok(()) => {}
-        Err(_) => unreachable!(),
-    }
-    let (_house, answers) = outcome?.hold_all();
-    Ok(answers)
+) -> Result<Vec<Answer>, AllocError> {
+    let performance = perform_alone(heap, bank, methodology, SERIAL, calls)?;
+    Ok(performance.hold_all().1)
 }
 
 // The same of the market's own house.
-pub fn answers_to(heap: Global, calls: &[Call]) -> Result<Vec<Answer>, Unperformed> {
+pub fn answers_to(heap: Global, calls: &[Call]) -> Result<Vec<Answer>, AllocError> {
     answers_of(heap, One::new(agreement()), ThreeIntervals, calls)
 }
 

@@ -4,6 +4,7 @@
 pub mod limits;
 pub mod money;
 pub mod order;
+mod place;
 pub mod till;
 
 pub use limits::{CENT, MONEY_LIMIT};

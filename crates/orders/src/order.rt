@@ -2,6 +2,8 @@
 ghost use Rattle.std.specs.Prelude.{◌≡◌, ◌<◌, ◌≤◌};
 ghost use Rattle.orders.specs.Limits.{place_limit, returned_number};
 
+use crate::place::Place;
+
 // An order to pay a station. Whoever has one in hand must see it released or held: it cannot be let go.
 pub struct PayOrder {
     serial: u64,
@@ -25,13 +27,13 @@ impl Drop for PayOrder {
 
 impl PayOrder {
     // Drawn by a till only.
-    pub(crate) fn new(serial: u64, place: u8, cents: u64) -> PayOrder
-        requires { (1 ≤ place) × ((place ≤ place_limit) × (0 < cents)) }
-        ensures { (result.serial ≡ serial) × (result.place ≡ place) × (result.cents ≡ cents) }
+    pub(crate) fn new(serial: u64, place: Place, cents: u64) -> PayOrder
+        requires { 0 < cents }
+        ensures { (result.serial ≡ serial) × (result.place ≡ place.number) × (result.cents ≡ cents) }
     {
         PayOrder {
             serial,
-            place,
+            place: place.number,
             cents,
         }
     }
@@ -49,6 +51,13 @@ impl PayOrder {
         ensures range { (1 ≤ result) × (result ≤ place_limit) }
     {
         self.place
+    }
+
+    // The same as a place that there is.
+    pub(crate) fn at(&self) -> Place
+        ensures { result.number ≡ self.now.place }
+    {
+        Place { number: self.place }
     }
 
     // What it pays.

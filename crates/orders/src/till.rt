@@ -8,7 +8,7 @@ pub mod calls;
 pub mod refusal;
 
 // Most places: as many as stations can be told apart by.
-pub const PLACES: usize = 32;
+pub const PLACES: usize = metering::PLACES as usize;
 
 #[derive(Drop)]
 pub struct Till {

@@ -7,6 +7,7 @@ use ledger::Refusal;
 use methodology::ThreeIntervals;
 use worked_figures::{agreement, sent, tariff, year};
 
+// `worked_cases` has this market too, above crates that this program has no use for.
 pub type Market = House<One<TwoPart>, ThreeIntervals>;
 
 // Files a year and a tariff, and takes the reading: 5,500,000 grains are due.

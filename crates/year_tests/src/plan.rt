@@ -1,6 +1,6 @@
 // What a market files in two years, and the calls that are made of its house.
 use banks::One;
-use history::{Answer, Call, Named, Orders, Spending, Stated, Unperformed, perform};
+use history::{Answer, Call, Named, Spending, Stated, perform_alone};
 use methodology::Methodology;
 use std::alloc::{AllocError, Global};
 use tariffs::{Filing, Row};
@@ -83,14 +83,7 @@ pub fn answers_to<M: Methodology + Drop>(
     heap: Global,
     methodology: M,
     calls: &[Call],
-) -> Result<Vec<Answer>, Unperformed> {
-    let bank = One::new(agreement());
-    let mut others = Orders::with_room(heap, 0)?;
-    let outcome = perform(heap, bank, methodology, 1, calls, &mut others);
-    match others.end() {
-        Ok(()) => {}
-        Err(_) => unreachable!(),
-    }
-    let (_house, answers) = outcome?.hold_all();
-    Ok(answers)
+) -> Result<Vec<Answer>, AllocError> {
+    let performance = perform_alone(heap, One::new(agreement()), methodology, 1, calls)?;
+    Ok(performance.hold_all().1)
 }

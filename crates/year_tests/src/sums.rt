@@ -36,16 +36,22 @@ pub fn spread(sheets: &[Sheet], head: usize, before: u64) -> i128
     sum
 }
 
+// A licensee's bill, grains.
+fn billed(sheet: &Sheet) -> i128 {
+    sheet
+        .licensees
+        .iter()
+        .flatten()
+        .map(|billed| 10_000 * i128::from(billed.bill))
+        .fold(0, |sum, bill| sum.wrapping_add(bill))
+}
+
 // The account over all sheets, grains: the bills and the margins of each, and what stands on the last one.
 pub fn accounted(sheets: &[Sheet]) -> i128 {
-    let mut sum: i128 = 0;
-    for sheet in sheets {
-        for billed in sheet.licensees.iter().flatten() {
-            sum = sum.wrapping_add(i128::from(billed.bill).wrapping_mul(10_000));
-        }
-        sum = sum.wrapping_add(i128::from(sheet.margin));
-    }
-    sum
+    sheets
+        .iter()
+        .map(|sheet| billed(sheet).wrapping_add(i128::from(sheet.margin)))
+        .fold(0, |sum, more| sum.wrapping_add(more))
 }
 
 pub fn standing(last: &Sheet) -> i128 {
@@ -59,24 +65,28 @@ pub fn standing(last: &Sheet) -> i128 {
     sum
 }
 
+// The sum of what each answer counts for.
+fn total<F: Fn(&Answer) -> u64>(answers: &[Answer], counted: F) -> i128
+    requires { (f : _) (a : _) → F.FnMut.pre f a }
+{
+    answers
+        .iter()
+        .map(counted)
+        .fold(0, |sum, more| sum.wrapping_add(i128::from(more)))
+}
+
 // The dues of all readings, grains.
 pub fn dues(answers: &[Answer]) -> i128 {
-    let mut sum: i128 = 0;
-    for answer in answers {
-        if let Answer::Metered(grains) = answer {
-            sum = sum.wrapping_add(i128::from(*grains));
-        }
-    }
-    sum
+    total(answers, |answer| match answer {
+        Answer::Metered(grains) => *grains,
+        _ => 0,
+    })
 }
 
 // What the released orders paid, cents.
 pub fn payments(answers: &[Answer]) -> i128 {
-    let mut sum: i128 = 0;
-    for answer in answers {
-        if let Answer::Paid(_, cents) = answer {
-            sum = sum.wrapping_add(i128::from(*cents));
-        }
-    }
-    sum
+    total(answers, |answer| match answer {
+        Answer::Paid(_, cents) => *cents,
+        _ => 0,
+    })
 }

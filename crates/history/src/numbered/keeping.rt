@@ -1,10 +1,11 @@
 // Taking orders out by their numbers, and putting them back.
-ghost use Rattle.std.specs.Prelude.{◌≡◌, ◌+◌, ◌-◌, ◌<◌, ◌≤◌, true, false, [], ◌∷◌, ◌++◌, length, IfOk, Some, None, Ok, Err, vec_len, vec_capacity, MatchOption, ◌≢◌, slice_set};
+ghost use Rattle.std.specs.Prelude.{◌≡◌, ◌<◌, ◌≤◌, [], ◌∷◌, ◌++◌, length, IfOk, Some, Ok, Err, MatchOption, ◌≢◌};
 ghost use Rattle.std.specs.Option.{option_to_list};
-ghost use Rattle.history.specs.Slots.{slots_of, slot, room_in, without, in_slots, Adds};
+ghost use Rattle.history.specs.Slots.{slots_of, slot, room_in, without, in_slots, Leaves, Adds};
 ghost use Rattle.history.specs.Bearing.{slot_bears, any_bears};
 
 use crate::numbered::Orders;
+use metering::index_of;
 use orders::PayOrder;
 use std::alloc::{AllocError, Global};
 
@@ -12,22 +13,7 @@ use std::alloc::{AllocError, Global};
 fn slot_bears(slot: &Option<PayOrder>, serial: u64) -> bool
     ensures { result ≡ slot_bears serial slot.now }
 {
-    match slot {
-        Some(order) => order.serial() == serial,
-        None => false,
-    }
-}
-
-// Whether an order in a list bears a serial.
-fn any_bears(slots: &[Option<PayOrder>], serial: u64) -> bool
-    ensures { result ≡ any_bears serial slots.now }
-{
-    for slot in slots {
-        if slot_bears(slot, serial) {
-            return true;
-        }
-    }
-    false
+    matches!(slot, Some(order) if order.serial() == serial)
 }
 
 impl Orders {
@@ -42,8 +28,7 @@ impl Orders {
     // Keeps an order under the next number.
     pub(crate) fn keep(&mut self, order: PayOrder)
         requires { length (slots_of self.old) < room_in self.old }
-        ensures there { slots_of self.new ≡ slots_of self.old ++ (Some order ∷ []) }
-        ensures room { room_in self.new ≡ room_in self.old }
+        ensures { Leaves self.old (slots_of self.old ++ (Some order ∷ [])) self.new }
     {
         self.slots.push_reserved(Some(order));
     }
@@ -63,31 +48,16 @@ impl Orders {
     pub fn bears(&self, serial: u64) -> bool
         ensures { result ≡ any_bears serial (slots_of self.now) }
     {
-        any_bears(&self.slots, serial)
+        self.slots.iter().any(|slot| slot_bears(slot, serial))
     }
 
     // Takes out the order with a number, if it is there.
     pub fn take(&mut self, number: usize) -> Option<PayOrder>
         ensures value { result ≡ slot (slots_of self.old) number }
-        ensures after { slots_of self.new ≡ without (slots_of self.old) number }
-        ensures room { room_in self.new ≡ room_in self.old }
+        ensures left { Leaves self.old (without (slots_of self.old) number) self.new }
     {
-        if number == 0 || number > self.slots.len() {
-            return None;
-        }
-        self.slots[number - 1].take()
-    }
-
-    // Puts an order back at a number from which it was taken.
-    pub(crate) fn put_back(&mut self, number: usize, order: PayOrder)
-        requires { (1 ≤ number) × ((number ≤ length (slots_of self.old)) × (slot (slots_of self.old) number ≡ None)) }
-        ensures after { slots_of self.new ≡ slice_set (slots_of self.old) (number - 1) (Some order) }
-        ensures room { room_in self.new ≡ room_in self.old }
-    {
-        let old = self.slots[number - 1].replace(order);
-        if let Some(_lost) = old {
-            unreachable()
-        }
+        let index = index_of(number, self.slots.len())?;
+        self.slots[index].take()
     }
 
     // Takes out the order with the highest number, and with it the numbers from there on.
@@ -107,7 +77,7 @@ impl Orders {
     pub fn end(self) -> Result<(), Orders>
         ensures { elim result [ Ok _ ↦ slots_of self ≡ [] | Err o ↦ (o ≡ self) × (slots_of self ≢ []) ] }
     {
-        if self.slots.len() > 0 {
+        if !self.slots.is_empty() {
             return Err(self);
         }
         self.finish();

@@ -1,5 +1,5 @@
 // Performing a list of calls, and ending it.
-ghost use Rattle.std.specs.Prelude.{◌≡◌, true, length, Ok, Err};
+ghost use Rattle.std.specs.Prelude.{◌≡◌, true, [], Ok, Err, IfOk};
 ghost use Rattle.house.specs.Shown.{shows};
 ghost use Rattle.history.specs.Slots.{slots_of};
 ghost use Rattle.history.specs.Histories.{Performed};
@@ -11,12 +11,40 @@ use crate::answer::Answer;
 use crate::call::Call;
 use crate::numbered::Orders;
 use crate::performing::{Performance, Unperformed};
-use crate::stepping::step;
+use crate::stepping::Desk;
 use banks::Bank;
 use house::House;
 use methodology::Methodology;
-use orders::Returned;
-use std::alloc::Global;
+use std::alloc::{AllocError, Global};
+
+// Makes a house over the bank and the methodology, and then the calls, one after another, beside orders of other houses.
+fn make<B: Bank + Drop, M: Methodology + Drop>(
+    heap: Global,
+    bank: B,
+    methodology: M,
+    serial: u64,
+    calls: &[Call],
+    others: &mut Orders,
+) -> Result<Performance<B, M>, AllocError>
+    requires { Foreign serial (slots_of others.old) }
+    ensures performed { IfOk result (λ p. Performed M.Methodology.shape (M.Methodology.meaning methodology) (B.Bank.row bank) serial (slots_of others.old) calls.now p.answers.items (slots_of p.hand) (shows B.Bank M.Methodology p.house)) }
+    ensures others { slots_of others.new ≡ slots_of others.old }
+{
+    let mut answers = Vec::with_capacity(heap, calls.len())?;
+    let hand = Orders::with_room(heap, calls.len())?;
+    let house = House::new(bank, methodology, serial);
+    let mut desk = Desk { house, hand };
+    for call in calls {
+        let answer = desk.step(others, call);
+        answers.push_reserved(answer);
+    }
+    let Desk { house, hand } = desk;
+    Ok(Performance {
+        house,
+        answers,
+        hand,
+    })
+}
 
 // Makes a house over the bank and the methodology, and then the calls, one after another. Orders of other houses may be
 // presented among them: they come back, and stay where they are.
@@ -34,18 +62,24 @@ pub fn perform<B: Bank + Drop, M: Methodology + Drop>(
     if others.bears(serial) {
         return Err(Unperformed::SerialTaken);
     }
-    let mut answers = Vec::with_capacity(heap, calls.len())?;
-    let mut hand = Orders::with_room(heap, calls.len())?;
-    let mut house = House::new(bank, methodology, serial);
-    for call in calls {
-        let answer = step(&mut house, &mut hand, others, call);
-        answers.push_reserved(answer);
-    }
-    Ok(Performance {
-        house,
-        answers,
-        hand,
-    })
+    let performance = make(heap, bank, methodology, serial, calls, others)?;
+    Ok(performance)
+}
+
+// The same where there is no order of another house.
+pub fn perform_alone<B: Bank + Drop, M: Methodology + Drop>(
+    heap: Global,
+    bank: B,
+    methodology: M,
+    serial: u64,
+    calls: &[Call],
+) -> Result<Performance<B, M>, AllocError>
+    ensures { IfOk result (λ p. Performed M.Methodology.shape (M.Methodology.meaning methodology) (B.Bank.row bank) serial [] calls.now p.answers.items (slots_of p.hand) (shows B.Bank M.Methodology p.house)) }
+{
+    let mut none = Orders::with_room(heap, 0)?;
+    let outcome = make(heap, bank, methodology, serial, calls, &mut none);
+    none.finish();
+    outcome
 }
 
 impl<B: Bank, M: Methodology> Performance<B, M> {
@@ -60,10 +94,8 @@ impl<B: Bank, M: Methodology> Performance<B, M> {
             mut hand,
         } = self;
         while let Some(order) = hand.take_last() {
-            if let Err(back) = house.hold(order) {
-                // The house takes in its own orders.
-                let Returned { order: _ } = back;
-            }
+            // The house takes in its own orders.
+            house.hold(order).unwrap();
         }
         hand.finish();
         (house, answers)

@@ -1,11 +1,11 @@
 // What a till does: it takes money in at a place, draws orders, and takes them in again.
-ghost use Rattle.std.specs.Prelude.{◌≡◌, ℕ, ◌+◌, ◌*◌, ◌≤◌, ◌&&◌};
-ghost use Rattle.orders.specs.Limits.{cent, money_limit, place_limit};
+ghost use Rattle.std.specs.Prelude.{◌≡◌, ◌≤◌, ◌&&◌};
 ghost use Rattle.orders.specs.Tills.{stands, ordered_at, is_place, room, New, Puts, Credits, Draws, mine, Releases, Holds};
 
-use crate::limits::{CENT, MONEY_LIMIT};
+use crate::limits::CENT;
 use crate::money::Money;
 use crate::order::{Paid, PayOrder, Returned};
+use crate::place::Place;
 use crate::till::refusal::TillRefusal;
 use crate::till::{PLACES, Till};
 
@@ -14,13 +14,9 @@ impl Till {
     pub fn new(serial: u64) -> Till
         ensures { New serial result }
     {
-        let none = Money {
-            standing: 0,
-            on_orders: 0,
-        };
         Till {
             serial,
-            money: [none; PLACES],
+            money: [Money::none(); PLACES],
         }
     }
 
@@ -31,56 +27,53 @@ impl Till {
         self.serial
     }
 
+    // The money of a place that there is.
+    fn at(&self, place: Place) -> Money
+        ensures { (result.standing ≡ stands self.now place.number) × (result.on_orders ≡ ordered_at self.now place.number) }
+    {
+        self.money[place.index()]
+    }
+
     // The money of a place; none where there is no such place.
     pub fn money(&self, place: u8) -> Money
         ensures { 1 ≤ place → (result.standing ≡ stands self.now place) × (result.on_orders ≡ ordered_at self.now place) }
     {
-        if place < 1 || place as usize > PLACES {
-            return Money {
-                standing: 0,
-                on_orders: 0,
-            };
+        match Place::numbered(place) {
+            Some(place) => self.at(place),
+            None => Money::none(),
         }
-        self.money[place as usize - 1]
     }
 
     // Whether so many grains more may come to a place.
     pub fn has_room(&self, place: u8, grains: u128) -> bool
         ensures { result ≡ is_place place && room self.now place grains }
     {
-        if place < 1 || place as usize > PLACES {
-            return false;
-        }
-        let money = self.money(place);
-        let held = money.standing + CENT * money.on_orders;
-        grains <= MONEY_LIMIT as u128 && grains as u64 + held <= MONEY_LIMIT
+        Place::numbered(place).is_some_and(|place| self.at(place).has_room(grains))
     }
 
-    // Puts other figures at a place.
-    fn put(&mut self, place: u8, standing: u64, on_orders: u64)
-        requires place { (1 ≤ place) × (place ≤ place_limit) }
-        requires within { standing + cent * on_orders ≤ money_limit }
-        ensures { Puts self.old place standing on_orders self.new }
+    // Puts other money at a place.
+    fn put(&mut self, place: Place, money: Money)
+        ensures { Puts self.old place.number money.standing money.on_orders self.new }
     {
-        let money = Money {
-            standing,
-            on_orders,
-        };
-        self.money[place as usize - 1] = money;
+        self.money[place.index()] = money;
     }
 
     // Takes in so many grains, which then stand at the place.
     pub fn credit(&mut self, place: u8, grains: u128) -> Result<(), TillRefusal>
         ensures { Credits self.old place grains result self.new }
     {
-        if place < 1 || place as usize > PLACES {
-            return Err(TillRefusal::NoPlace);
-        }
-        if !self.has_room(place, grains) {
+        let place = Place::numbered(place).ok_or(TillRefusal::NoPlace)?;
+        let money = self.at(place);
+        if !money.has_room(grains) {
             return Err(TillRefusal::TooMuch);
         }
-        let money = self.money(place);
-        self.put(place, money.standing + grains as u64, money.on_orders);
+        self.put(
+            place,
+            Money {
+                standing: money.standing + grains as u64,
+                on_orders: money.on_orders,
+            },
+        );
         Ok(())
     }
 
@@ -88,15 +81,19 @@ impl Till {
     pub fn draw(&mut self, place: u8) -> Result<PayOrder, TillRefusal>
         ensures { Draws self.old place result self.new }
     {
-        if place < 1 || place as usize > PLACES {
-            return Err(TillRefusal::NoPlace);
-        }
-        let money = self.money(place);
+        let place = Place::numbered(place).ok_or(TillRefusal::NoPlace)?;
+        let money = self.at(place);
         let cents = money.standing / CENT;
         if cents == 0 {
             return Err(TillRefusal::UnderACent);
         }
-        self.put(place, money.standing % CENT, money.on_orders + cents);
+        self.put(
+            place,
+            Money {
+                standing: money.standing % CENT,
+                on_orders: money.on_orders + cents,
+            },
+        );
         Ok(PayOrder::new(self.serial, place, cents))
     }
 
@@ -114,9 +111,16 @@ impl Till {
         if !self.knows(&order) {
             return Err(Returned { order });
         }
+        let place = order.at();
+        let money = self.at(place);
         let paid = order.spent();
-        let money = self.money(paid.place);
-        self.put(paid.place, money.standing, money.on_orders - paid.cents);
+        self.put(
+            place,
+            Money {
+                standing: money.standing,
+                on_orders: money.on_orders - paid.cents,
+            },
+        );
         Ok(paid)
     }
 
@@ -124,16 +128,9 @@ impl Till {
     pub fn hold(&mut self, order: PayOrder) -> Result<(), Returned>
         ensures { Holds self.old order result self.new }
     {
-        if !self.knows(&order) {
-            return Err(Returned { order });
-        }
-        let paid = order.spent();
-        let money = self.money(paid.place);
-        self.put(
-            paid.place,
-            money.standing + CENT * paid.cents,
-            money.on_orders - paid.cents,
-        );
+        let paid = self.release(order)?;
+        let grains = u128::from(CENT) * u128::from(paid.cents);
+        self.credit(paid.place, grains).unwrap();
         Ok(())
     }
 }

@@ -1,7 +1,7 @@
-use Rattle.std.proofs.Common.{length, vec_items, sym, refl, ap, ◌∙◌, arith}
+use Rattle.std.proofs.Common.{length, vec_items, refl, ap, ◌∙◌, arith}
 use Rattle.history.specs.Slots.{slots_of}
 use Rattle.history.proofs.Steps.{performed_none, one_more, all_taken, still_foreign, all_own}
-use Rattle.history.proofs.performing.perform.perform.Goals as goal
+use Rattle.history.proofs.performing.perform.make.Goals as goal
 
 pub loop-call-init : goal.loop-call-init
 loop-call-init g c =
@@ -14,7 +14,6 @@ loop-call-init g c =
       omega (arith, none),
       hand.1,
       refl,
-      sym c.if-bears.ensures,
       performed_none _ _ _ _ _ _ (vec_items c.in_ok-answers.answers) _ refl refl refl c.new-house.ensures.made room.items hand.0,
     )
 
@@ -29,9 +28,8 @@ loop-call-preserved g c =
       omega (arith, p.capacity, i.2),
       omega (arith, e.long, i.3),
       omega (arith, e.room, i.4),
-      e.others ∙ i.5,
-      i.6,
-      one_more _ _ _ _ (slots_of c.loop-call.others) _ c.args.calls.now c.loop-call.call-index c.call-item.result c.step-answer.result _ _ _ _ _ _ below c.call-item.is i.5 (e.next _ _ _ _) p.items i.7,
+      e.others_stay ∙ i.5,
+      one_more _ _ _ _ (slots_of c.loop-call.others) _ c.args.calls.now c.loop-call.call-index c.call-item.result c.step-answer.result _ _ _ _ _ _ below c.call-item.is i.5 (e.next _ _ _ _) p.items i.6,
     )
 
 pub returns : goal.returns
@@ -39,7 +37,7 @@ returns g c =
     let i = c.loop-call.invariant in
     let over = c.new-house.ensures.over in
     record {
-      performed = all_taken _ _ _ _ _ _ _ _ c.args.calls.now c.loop-call.call-index _ _ over.market_is over.row_is c.loop-call-test.false i.7;
+      performed = all_taken _ _ _ _ _ _ _ _ c.args.calls.now c.loop-call.call-index _ _ over.market_is over.row_is c.loop-call-test.false i.6;
       others = i.5;
     }
 
@@ -48,10 +46,10 @@ step-answer-requires g c =
     let i = c.loop-call.invariant in
     record {
       room = omega (arith, i.3, i.4, c.loop-call-test.true);
-      foreign = still_foreign _ _ _ _ _ (slots_of c.loop-call.others) _ _ _ _ i.7 i.5 i.6;
+      foreign = still_foreign _ _ _ _ _ (slots_of c.loop-call.others) _ _ _ _ i.6 i.5 c.requires;
     }
 
 pub invariant_of-result : goal.invariant_of-result
 invariant_of-result g c =
-    let own = all_own _ _ _ _ _ _ _ _ _ c.loop-call.invariant.7 in
+    let own = all_own _ _ _ _ _ _ _ _ _ c.loop-call.invariant.6 in
     record { own = own.0; covered = own.1 }

@@ -1,0 +1,33 @@
+// The places of a market, counted from 1.
+ghost use Rattle.std.specs.Prelude.{◌≡◌, ◌+◌, ◌≤◌, is_some, IfSome};
+ghost use Rattle.orders.specs.Limits.{place_limit};
+ghost use Rattle.orders.specs.Tills.{is_place};
+
+use metering::PLACES;
+
+// A place that there is.
+#[derive(Clone, Copy)]
+pub(crate) struct Place {
+    pub(crate) number: u8,
+    ghost there: { (1 ≤ number) × (number ≤ place_limit) },
+}
+
+impl Place {
+    // The place with a number, if there is one.
+    pub(crate) fn numbered(number: u8) -> Option<Place>
+        ensures test { is_some result ≡ is_place number }
+        ensures found { IfSome result (λ p. p.number ≡ number) }
+    {
+        match number {
+            1..=PLACES => Some(Place { number }),
+            _ => None,
+        }
+    }
+
+    // Where it stands in a list of all places.
+    pub(crate) fn index(self) -> usize
+        ensures { result + 1 ≡ self.number }
+    {
+        usize::from(self.number) - 1
+    }
+}
