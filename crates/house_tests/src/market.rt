@@ -14,7 +14,7 @@ pub const SERIAL: u64 = 7;
 // What a meter measured in each block: kW, and kWh.
 pub fn metered(kind: Kind, number: u32, demand: u32, blocks: [u32; BLOCKS]) -> Reading {
     let figures = Figures {
-        kind: kind.number() as u32,
+        kind: u32::from(kind),
         number,
         demand,
         blocks,

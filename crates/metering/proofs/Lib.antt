@@ -1,3 +1,4 @@
 pub mod Listed
 pub mod Limited
 pub mod Same
+pub mod Most

@@ -1,4 +1,5 @@
 pub mod Limits
+pub mod Kinds
 pub mod Blocks
 pub mod Verdict
 pub mod Figures

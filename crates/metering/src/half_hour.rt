@@ -30,7 +30,7 @@ pub struct HalfHour {
 }
 
 impl HalfHour {
-    // The half-hour of a block, if the day has that block.
+    // The half-hour of a block, if the day has that block. An Option and no TryFrom: all that an error could say is the block.
     pub fn of(block: usize) -> Option<HalfHour>
         ensures test { is_some result ≡ nat_lt block block_count }
         ensures found { IfSome result (λ h. h.block ≡ block) }

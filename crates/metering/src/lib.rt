@@ -12,5 +12,6 @@ pub use figures::{Figures, make_reading};
 pub use half_hour::HalfHour;
 pub use header::{Header, header_of};
 pub use index::index_of;
+pub use reading::number::UnknownKind;
 pub use reading::{BLOCKS, DEMAND_LIMIT, ENERGY_LIMIT, Kind, LICENSEES, PLACES, Reading};
 pub use refusal::Refusal;

@@ -21,7 +21,7 @@ pub fn measured(kind: Kind, number: u8, demand: u32, energies: [u32; 3]) -> Resu
     blocks[MORNING] = energies[1];
     blocks[EVENING] = energies[2];
     let figures = Figures {
-        kind: u32::from(kind.number()),
+        kind: u32::from(kind),
         number: u32::from(number),
         demand,
         blocks,
