@@ -1,31 +1,29 @@
 -- The lines of a journal, read one after another.
-use Rattle.std.proofs.Common.{◌≡◌, ℕ, ◌+◌, ◌<◌, List, [], ◌∷◌, length, Ok, Err, Result, refl, sym, ap, ◌∙◌, arith}
-use Rattle.words.specs.Pieces.{first_line, behind_line, lines, words, bare}
-use Rattle.words.proofs.Lines.{lines_cut}
+use Rattle.std.proofs.Common.{◌≡◌, ℕ, ◌+◌, List, [], ◌∷◌, Ok, Err, Result, refl, sym, ap, ◌∙◌}
+use Rattle.words.specs.Pieces.{words, bare}
 use Rattle.journal.specs.declared.expected.Expected.{Expected}
 use Rattle.journal.specs.declared.expected.Unreadable.{Unreadable}
 use Rattle.journal.specs.declared.expected.Unreadable.TheVariants.{Lacks, NoMemory}
-use Rattle.journal.specs.declared.fault.Fault.{Fault}
 use Rattle.journal.specs.Fields.{Words}
 use Rattle.journal.specs.Lines.{Said, Turns, with_words}
-use Rattle.journal.specs.Text.{Account, Reads, unread_at, read_on, goes_on, finished}
+use Rattle.journal.specs.Text.{Account, Fault, Reads, unread_at, read_on, goes_on, finished}
 
-module _ (n : ℕ) (s : Said) (text : List ℕ) (some : 0 < length text) (ws : Words) (of_line : ws ≡ words (bare (first_line text))) where
-  abbrev then : Result Said Expected → Result Account Fault
-  then said = goes_on (n + 1) said (λ t. read_on (n + 1) t (lines (behind_line text)))
+-- one line read
+module _ (n : ℕ) (s : Said) (ls : List (List ℕ)) (line : List ℕ) (more : List (List ℕ)) (m : ℕ) (cut : ls ≡ line ∷ more) (next : m ≡ n + 1) where
+  abbrev then : ℕ → Result Said Expected → Result Account Fault
+  then k said = goes_on k said (λ t. read_on k t more)
 
-  line_read : read_on n s (lines text) ≡ then (with_words s (n + 1) ws)
+  line_read : read_on n s ls ≡ then m (with_words s m (words (bare line)))
   unfolding read_on
-  line_read = ap (read_on n s) (lines_cut text some) ∙ ap (λ l. then (with_words s (n + 1) l)) (sym of_line)
+  line_read = ap (read_on n s) cut ∙ sym (ap (λ k. then k (with_words s k (words (bare line)))) next)
 
-  pub line_stops : (why : Unreadable) (after : Said) → Turns (with_words s (n + 1) ws) (Err why) after → Reads (read_on n s (lines text)) (Err (unread_at (n + 1) why))
-  line_stops (Lacks e) after h = line_read ∙ ap then h
+  pub line_stops : (why : Unreadable) (after : Said) → Turns (with_words s m (words (bare line))) (Err why) after → Reads (read_on n s ls) (Err (unread_at m why))
+  line_stops (Lacks e) after h = line_read ∙ ap (then m) h
   line_stops NoMemory after h = tt
 
-  pub line_goes : (t : Said) → with_words s (n + 1) ws ≡ Ok t → read_on n s (lines text) ≡ read_on (n + 1) t (lines (behind_line text))
-  line_goes t h = line_read ∙ ap then h
+  pub line_goes : (t : Said) → with_words s m (words (bare line)) ≡ Ok t → read_on m t more ≡ read_on n s ls
+  line_goes t h = sym (line_read ∙ ap (then m) h)
 
-pub lines_end : (n : ℕ) (s : Said) (text : List ℕ) → length text ≡ 0 → read_on n s (lines text) ≡ finished n s
-unfolding lines read_on
-lines_end n s [] h = refl
-lines_end n s (c ∷ cs) h = absurd (omega arith)
+pub lines_end : (n : ℕ) (s : Said) → read_on n s [] ≡ finished n s
+unfolding read_on
+lines_end n s = refl

@@ -49,11 +49,21 @@ abbrev pub TakesName : Result (List ℕ × Words) Expected → Result (Bor (List
 TakesName said (Ok name) rest = said ≡ Ok (name.now, rest)
 TakesName said (Err e) rest = said ≡ Err e
 
+-- what a line gives that says this and no more
+abbrev pub alone : {A : Type 0} → Result (A × Words) Expected → Result A Expected
+alone said = do
+  (x, ws) ← said
+  _ ← ended ws
+  Ok x
+
+abbrev pub TellsName : Result (List ℕ) Expected → Result (Bor (List ℕ)) Expected → Type 0
+TellsName said (Ok name) = said ≡ Ok name.now
+TellsName said (Err e) = said ≡ Err e
+
 -- a line that says this and no more
 abbrev pub whole : {A : Type 0} → (A → Call) → Result (A × Words) Expected → Result Call Expected
 whole make said = do
-  (x, ws) ← said
-  _ ← ended ws
+  x ← alone said
   Ok (make x)
 
 -- what a tariff files, for a market's revenues and intervals

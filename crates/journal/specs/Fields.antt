@@ -25,9 +25,13 @@ abbrev pub Passes : Result Words Expected → Result (Unit {0}) Expected → Wor
 Passes said (Ok _) rest = said ≡ Ok rest
 Passes said (Err e) rest = said ≡ Err e
 
+-- a word that has to be this one
+abbrev pub keyword : List ℕ → Expected → Words → Result Words Expected
+keyword text expected [] = Err expected
+keyword text expected (w ∷ ws) = cond (bytes_eq w text) (Ok ws) (Err expected)
+
 unfoldable pub named : Name → Words → Result Words Expected
-named name [] = Err (Field name)
-named name (w ∷ ws) = cond (bytes_eq w (name_text name)) (Ok ws) (Err (Field name))
+named name ws = keyword (name_text name) (Field name) ws
 
 -- most that a figure may be
 abbrev pub largest : ℕ

@@ -9,7 +9,7 @@ use Rattle.journal.specs.declared.name.Name.TheVariants.{Serial}
 use Rattle.journal.specs.declared.expected.Expected.{Expected}
 use Rattle.journal.specs.declared.expected.Expected.TheVariants.{MarketLine}
 use Rattle.journal.specs.Chain.{◌>>=◌}
-use Rattle.journal.specs.Fields.{Words, single, ended}
+use Rattle.journal.specs.Fields.{Words, keyword, single, ended}
 
 abbrev pub revenues_of : Market → ℕ
 revenues_of Three = three_shape.revenues
@@ -20,8 +20,7 @@ intervals_of Three = three_shape.intervals
 intervals_of Two = two_shape.intervals
 
 abbrev pub begun : Words → Result Words Expected
-begun [] = Err MarketLine
-begun (w ∷ ws) = cond (bytes_eq w (codes "market")) (Ok ws) (Err MarketLine)
+begun ws = keyword (codes "market") MarketLine ws
 
 abbrev pub market_of : Words → Result (Market × Words) Expected
 market_of [] = Err MarketLine

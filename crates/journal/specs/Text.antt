@@ -7,7 +7,7 @@ use Rattle.journal.specs.declared.expected.Expected.{Expected}
 use Rattle.journal.specs.declared.expected.Expected.TheVariants.{MarketLine}
 use Rattle.journal.specs.declared.expected.Unreadable.{Unreadable}
 use Rattle.journal.specs.declared.expected.Unreadable.TheVariants.{Lacks, NoMemory}
-use Rattle.journal.specs.declared.fault.Fault.{Fault}
+use Rattle.words.specs.declared.fault.LineFault.{LineFault}
 use Rattle.journal.specs.declared.fault.Unread.{Unread}
 use Rattle.journal.specs.declared.fault.Unread.TheVariants.{At, NoMemory as OutOf}
 use Rattle.journal.specs.declared.market.Market.{Market}
@@ -24,6 +24,10 @@ pub record Account : Type 0 where
 
 abbrev pub account : Journal → Account
 account j = record { market = j.market; serial = j.serial; places = map station_meaning j.stations.list.items; notes = map note j.entries.items }
+
+-- the first line that cannot be read, and what was expected there
+abbrev pub Fault : Type 0
+Fault = LineFault Expected
 
 -- the text's journal or its fault; want of memory promises nothing
 abbrev pub Reads : Result Account Fault → Result Journal Unread → Type 0

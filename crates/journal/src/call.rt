@@ -2,7 +2,7 @@
 ghost use Rattle.std.specs.Prelude.{◌≡◌};
 ghost use Rattle.words.specs.Pieces.{left};
 ghost use Rattle.journal.specs.Fields.{Takes};
-ghost use Rattle.journal.specs.Calls.{Tells, TakesName, file_of, filing_of, year_of, tariff_of, meter_of, deliver_of, close_of, draw_of, release_of, hold_of, request_of};
+ghost use Rattle.journal.specs.Calls.{Tells, TakesName, TellsName, alone, file_of, filing_of, year_of, tariff_of, close_of, draw_of, request_of};
 
 use crate::expected::Expected;
 use crate::field::{ended, field, single};
@@ -28,10 +28,7 @@ pub enum Request<'a> {
 fn file<'a>(words: &mut Words<'a>) -> Result<&'a [u8], Expected>
     ensures { TakesName (file_of (left words.old)) result (left words.new) }
 {
-    let Some(name) = words.next() else {
-        return Err(Expected::FileName);
-    };
-    Ok(name)
+    words.next().ok_or(Expected::FileName)
 }
 
 // Takes what a tariff files.
@@ -77,22 +74,13 @@ fn tariff<'a>(mut words: Words<'a>, market: Market) -> Result<Request<'a>, Expec
     Ok(Request::Tariff(filing))
 }
 
-#[tactic(auto, unfolding(crate::specs::Calls::meter_of))]
-fn meter<'a>(mut words: Words<'a>) -> Result<Request<'a>, Expected>
-    ensures { Tells (meter_of (left words.entry)) result }
+// Reads a line that names a meter file and no more.
+fn meter_file<'a>(mut words: Words<'a>) -> Result<&'a [u8], Expected>
+    ensures { TellsName (alone (file_of (left words.entry))) result }
 {
     let name = file(&mut words)?;
     ended(words)?;
-    Ok(Request::Meter(name))
-}
-
-#[tactic(auto, unfolding(crate::specs::Calls::deliver_of))]
-fn deliver<'a>(mut words: Words<'a>) -> Result<Request<'a>, Expected>
-    ensures { Tells (deliver_of (left words.entry)) result }
-{
-    let name = file(&mut words)?;
-    ended(words)?;
-    Ok(Request::Deliver(name))
+    Ok(name)
 }
 
 #[tactic(auto, unfolding(crate::specs::Calls::close_of))]
@@ -113,35 +101,27 @@ fn draw<'a>(mut words: Words<'a>) -> Result<Request<'a>, Expected>
 {
     let place = single(&mut words, Name::Draw)?;
     ended(words)?;
-    if place > u64::from(u8::MAX) {
-        return Err(Expected::Most {
+    match u8::try_from(place) {
+        Ok(place) => Ok(Request::Draw(place)),
+        Err(_) => Err(Expected::Most {
             name: Name::Draw,
             most: u64::from(u8::MAX),
-        });
+        }),
     }
-    Ok(Request::Draw(place as u8))
 }
 
-#[tactic(auto, unfolding(crate::specs::Calls::release_of))]
-fn release<'a>(mut words: Words<'a>) -> Result<Request<'a>, Expected>
-    ensures { Tells (release_of (left words.entry)) result }
+// Reads a line that names an order, by the order of its draw, and no more.
+fn order(mut words: Words, name: Name) -> Result<usize, Expected>
+    ensures { result ≡ alone (single name (left words.entry)) }
 {
-    let order = single(&mut words, Name::Release)?;
+    let order = single(&mut words, name)?;
     ended(words)?;
-    Ok(Request::Release(order as usize))
-}
-
-#[tactic(auto, unfolding(crate::specs::Calls::hold_of))]
-fn hold<'a>(mut words: Words<'a>) -> Result<Request<'a>, Expected>
-    ensures { Tells (hold_of (left words.entry)) result }
-{
-    let order = single(&mut words, Name::Hold)?;
-    ended(words)?;
-    Ok(Request::Hold(order as usize))
+    // `as` loses nothing: Rust has no `From` between `u64` and `usize`.
+    Ok(order as usize)
 }
 
 // Reads a call; the other is what was expected where the line begins as none does.
-#[tactic(auto, unfolding(crate::specs::Calls::request_of))]
+#[tactic(auto, unfolding(crate::specs::Calls::request_of, crate::specs::Calls::meter_of, crate::specs::Calls::deliver_of, crate::specs::Calls::release_of, crate::specs::Calls::hold_of))]
 pub fn read_request<'a>(
     words: Words<'a>,
     market: Market,
@@ -158,17 +138,17 @@ pub fn read_request<'a>(
     } else if is_word(verb, b"tariff") {
         tariff(behind, market)
     } else if is_word(verb, b"meter") {
-        meter(behind)
+        Ok(Request::Meter(meter_file(behind)?))
     } else if is_word(verb, b"deliver") {
-        deliver(behind)
+        Ok(Request::Deliver(meter_file(behind)?))
     } else if is_word(verb, b"close") {
         close(words)
     } else if is_word(verb, b"draw") {
         draw(words)
     } else if is_word(verb, b"release") {
-        release(words)
+        Ok(Request::Release(order(words, Name::Release)?))
     } else if is_word(verb, b"hold") {
-        hold(words)
+        Ok(Request::Hold(order(words, Name::Hold)?))
     } else {
         Err(other)
     }

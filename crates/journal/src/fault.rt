@@ -1,41 +1,21 @@
 // Why a text is not a journal.
-ghost use Rattle.std.specs.Prelude.{◌++◌, Some, codes, decimal};
-ghost use Rattle.journal.specs.Messages.{expected_text, figures_text};
+ghost use Rattle.std.specs.Prelude.{Some};
+ghost use Rattle.journal.specs.Messages.{expected_text};
 
 use crate::expected::Expected;
 use agreements::limits::{CAPACITY_PRICE_LIMIT, CONTRACTED_LIMIT, ENERGY_PRICE_LIMIT, QUOTA_LIMIT};
 use metering::PLACES;
 use std::fmt;
+use words::{Counted, LineFault};
 
 // The first line, counted from 1, that cannot be read, and what was expected there.
-#[derive(Clone, Copy)]
-pub struct Fault {
-    pub line: usize,
-    pub expected: Expected,
-}
+pub type Fault = LineFault<Expected>;
 
 // Why a text is not read.
 #[derive(Clone, Copy)]
 pub enum Unread {
     At(Fault),
     NoMemory,
-}
-
-// So many figures: `1 figure`, `3 figures`.
-#[derive(Clone, Copy)]
-struct Figures(usize);
-
-impl fmt::Display for Figures {
-    ghost output = { λ n. Some (figures_text n.0) };
-
-    fn fmt<W: fmt::Write>(&self, f: &mut fmt::Formatter<W>) -> fmt::Result {
-        let count = self.0;
-        if count == 1 {
-            f.write_str("1 figure")
-        } else {
-            write!(f, "{count} figures")
-        }
-    }
 }
 
 impl fmt::Display for Expected {
@@ -59,7 +39,10 @@ impl fmt::Display for Expected {
                 wanted,
                 found,
             } => {
-                let figures = Figures(wanted);
+                let figures = Counted {
+                    count: wanted,
+                    noun: "figure",
+                };
                 write!(f, "'{name}' wants {figures}, found {found}")
             }
             Expected::Most { name, most } => write!(f, "'{name}' wants figures of at most {most}"),
@@ -87,16 +70,5 @@ impl fmt::Display for Expected {
                 write!(f, "expected at most {places} stations")
             }
         }
-    }
-}
-
-// As `12: expected 'peaks'`, to stand behind the name of a file and a colon.
-impl fmt::Display for Fault {
-    ghost output = { λ t. Some (decimal t.line ++ (codes ": " ++ expected_text t.expected)) };
-
-    fn fmt<W: fmt::Write>(&self, f: &mut fmt::Formatter<W>) -> fmt::Result {
-        let line = self.line;
-        let expected = self.expected;
-        write!(f, "{line}: {expected}")
     }
 }

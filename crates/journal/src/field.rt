@@ -1,26 +1,30 @@
 // Fields: a name and then so many figures.
 ghost use Rattle.std.specs.Prelude.{◌≡◌, ℕ, ◌+◌, ◌^◌, ◌<◌, List, [], ◌∷◌, ◌++◌};
 ghost use Rattle.words.specs.Pieces.{left};
-ghost use Rattle.journal.specs.Fields.{Takes, Passes, Runs, named, run, row_of, figures, field, single, ended};
+ghost use Rattle.journal.specs.Fields.{Takes, Passes, Runs, keyword, named, run, row_of, figures, field, single, ended};
 
 use crate::expected::Expected;
 use crate::name::Name;
 use rates::HEADS;
 use tariffs::Row;
-use words::{Words, is_figure, number};
+use words::{Words, is_figure, is_word, number};
+
+// Takes a word that has to be this one.
+pub fn keyword(words: &mut Words, text: &str, expected: Expected) -> Result<(), Expected>
+    ensures { Passes (keyword text.now expected (left words.old)) result (left words.new) }
+{
+    match words.next() {
+        Some(word) if is_word(word, text.as_bytes()) => Ok(()),
+        _ => Err(expected),
+    }
+}
 
 // Takes a name.
+#[tactic(auto, unfolding(crate::specs::Fields::named))]
 pub fn named(words: &mut Words, name: Name) -> Result<(), Expected>
     ensures { Passes (named name (left words.old)) result (left words.new) }
 {
-    let Some(word) = words.next() else {
-        return Err(Expected::Field(name));
-    };
-    if name.is(word) {
-        Ok(())
-    } else {
-        Err(Expected::Field(name))
-    }
+    keyword(words, name.text(), Expected::Field(name))
 }
 
 // The row with one figure more.

@@ -5,7 +5,7 @@ ghost use Rattle.journal.specs.Fields.{Takes, Passes};
 ghost use Rattle.journal.specs.Headings.{revenues_of, intervals_of, begun, market_of, heading_of};
 
 use crate::expected::Expected;
-use crate::field::{ended, single};
+use crate::field::{ended, keyword, single};
 use crate::name::Name;
 use methodology::{Methodology, ThreeIntervals, TwoIntervals};
 use words::{Words, is_word};
@@ -48,14 +48,7 @@ pub struct Heading {
 fn begun(words: &mut Words) -> Result<(), Expected>
     ensures { Passes (begun (left words.old)) result (left words.new) }
 {
-    let Some(word) = words.next() else {
-        return Err(Expected::MarketLine);
-    };
-    if is_word(word, b"market") {
-        Ok(())
-    } else {
-        Err(Expected::MarketLine)
-    }
+    keyword(words, "market", Expected::MarketLine)
 }
 
 // Takes the word that says which market it is.

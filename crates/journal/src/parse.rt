@@ -9,7 +9,7 @@ use crate::fault::{Fault, Unread};
 use crate::market::Market;
 use stations::Stations;
 use std::alloc::Global;
-use words::{Words, next_line};
+use words::{Lines, Words};
 
 // What an operator asks: of which market, with what stations, and which calls in their order.
 #[derive(Drop)]
@@ -54,16 +54,12 @@ pub fn parse_journal<'a>(heap: Global, text: &'a [u8]) -> Result<Journal<'a>, Un
     ensures { Reads (journal_of text.now) result }
 {
     let mut draft = Draft::blank(heap);
-    let mut rest = text;
-    let mut lines = 0;
-    while !rest.is_empty() {
-        let (line, behind) = next_line(rest);
-        match draft.add_line(heap, lines + 1, Words::of(line)) {
-            Ok(()) => {}
-            Err(why) => return Err(unread_at(lines + 1, why)),
+    let mut last = 0;
+    for (line, bytes) in Lines::of(text) {
+        if let Err(why) = draft.add_line(heap, line, Words::of(bytes)) {
+            return Err(unread_at(line, why));
         }
-        rest = behind;
-        lines += 1;
+        last = line;
     }
-    finish(draft, lines)
+    finish(draft, last)
 }

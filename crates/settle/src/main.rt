@@ -2,7 +2,6 @@
 #![tactic(auto)]
 
 mod arguments;
-mod counted;
 mod failure;
 mod opening;
 mod printing;
@@ -10,7 +9,6 @@ mod running;
 mod source;
 
 use crate::arguments::{Command, USAGE, asked};
-use crate::counted::Counted;
 use crate::failure::Failure;
 use crate::opening::open_all;
 use crate::running::perform_list;
@@ -20,6 +18,7 @@ use journal::{Journal, Market};
 use methodology::{ThreeIntervals, TwoIntervals};
 use std::env;
 use std::process::ExitCode;
+use words::Counted;
 
 fn main(rt: HostRuntime) -> ExitCode {
     match start(&rt) {

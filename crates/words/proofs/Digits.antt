@@ -1,33 +1,48 @@
--- Words of digits, digit by digit.
-use Rattle.std.proofs.Common.{◌≡◌, ℕ, ◌+◌, ◌*◌, ◌<◌, ◌≤◌, min, true, false, ◌&&◌, ◌⊎◌, List, length, get_or, drop, sym, ap, ◌∙◌, inl, inr, arith}
+-- The digits of figures.
+use Rattle.std.proofs.Common.{◌≡◌, ℕ, ◌<◌, ◌≤◌, ◌^◌, min, true, false, ltb, List, [], ◌∷◌, length, Ok, Err, Some, Result, ap, sym, ◌∙◌, rules, arith, cond}
 use native.Mathlib.Nat.{min-eq_left, min-eq_right}
-use Rattle.std.proofs.lemmas.List.{drop_more, drop_all}
-use Rattle.std.proofs.lemmas.Bool.{cases_lt, le-leb, lt-leb, and_from, and_left, and_right}
-use Rattle.words.specs.Figures.{all_digits}
+use Rattle.std.specs.Result.{result_ok, result_unwrap_or}
+use Rattle.std.specs.Str.{IsUtf8, IsAscii}
+use Rattle.std.specs.Str.Parse.{digits_value, ParsesUnsigned}
+use Rattle.std.proofs.lemmas.Bool.{and_parts, leb-true, ltb-true, cond-true, cond-false, and_from, and_right, lt-ltb, le-ltb}
+use Rattle.std.proofs.lemmas.Str.{IsUtf8-from_ascii}
+use Rattle.std.proofs.lemmas.Str.Ascii.{IsAscii-nil, IsAscii-cons}
+use Rattle.std.proofs.lemmas.Str.Parse.{IsNumeralModel, numerals_by_value, parse_digits}
+use Rattle.words.specs.Figures.{digit, all_digits, is_figure, figure_of, number_of}
 
--- a figure that is held to the largest at each digit is the whole number held to it
-pub capped : (v d top : ℕ) → min (min v top * 10 + d) top ≡ min (v * 10 + d) top
-capped v d top =
-    elim (cases_lt top v) [
-      | inl h ↦
-          (let p : top ≤ top * 10 + d = omega arith in
-          let q : top ≤ v * 10 + d = omega arith in
-          let r : top ≤ v = omega arith in
-          ap (λ n. min (n * 10 + d) top) (min-eq_right r) ∙ min-eq_right p ∙ sym (min-eq_right q))
-      | inr h ↦ ap (λ n. min (n * 10 + d) top) (min-eq_left h)
-    ]
+digits_ascii : (w : List ℕ) → all_digits w ≡ true → IsAscii w
+digits_ascii [] h = IsAscii-nil
+digits_ascii (c ∷ cs) h =
+    let p = and_parts (digit c) (all_digits cs) h in
+    IsAscii-cons c cs (omega (arith, leb-true c 57 (and_parts _ _ p.0).1)) (digits_ascii cs p.1)
 
-module _ (w : List ℕ) (k : ℕ) (inside : k < length w) where
-  pub digits_go : 48 ≤ get_or w k 0 → get_or w k 0 ≤ 57 → all_digits (drop k w) ≡ all_digits (drop (k + 1) w)
-  digits_go l h =
-      ap all_digits (drop_more w k 0 inside)
-      ∙ ap (λ t. t && all_digits (drop (k + 1) w)) (and_from _ _ (le-leb 48 (get_or w k 0) l) (le-leb (get_or w k 0) 57 h))
+-- a figure is text
+pub figure_utf8 : (w : List ℕ) → is_figure w ≡ true → IsUtf8 w
+figure_utf8 w h = IsUtf8-from_ascii w (digits_ascii w (and_parts (ltb 0 (length w)) (all_digits w) h).1)
 
-  pub digits_stop : (get_or w k 0 < 48) ⊎ (57 < get_or w k 0) → all_digits (drop k w) ≡ false
-  digits_stop h =
-      ap all_digits (drop_more w k 0 inside)
-      ∙ ap (λ t. t && all_digits (drop (k + 1) w))
-      (elim h [ inl a ↦ and_left _ _ (lt-leb 48 (get_or w k 0) a) | inr b ↦ and_right _ _ (lt-leb (get_or w k 0) 57 b) ])
+-- the parser's digits are these
+numerals : IsNumeralModel (λ ds. all_digits ds ≡ true) (digits_value 10)
+numerals = numerals_by_value _ (search rules)
 
-pub digits_end : (w : List ℕ) (k : ℕ) → length w ≤ k → all_digits (drop k w) ≡ true
-digits_end w k h = ap all_digits (drop_all k w h)
+parts : (w : List ℕ) → is_figure w ≡ true → (0 < length w) × (all_digits w ≡ true)
+parts w some =
+    let p = and_parts (ltb 0 (length w)) (all_digits w) some in
+    (ltb-true 0 (length w) p.0, p.1)
+
+-- what the parser gives of a figure
+module _ {E : Type 0} (w : List ℕ) (some : is_figure w ≡ true) where
+  pub figure_read : (r : Result ℕ E) → ParsesUnsigned 32 10 w r → Some (result_unwrap_or r 4294967295) ≡ figure_of w
+  figure_read (Ok n) h =
+      let p = parse_digits numerals {E = E} 32 w (Ok n) h (parts w some).1 in
+      ap Some (p.1 ∙ sym (min-eq_left (omega (arith, p.0.1)))) ∙ sym (cond-true _ _ _ some)
+  figure_read (Err e) h =
+      let large : digits_value 10 w < 2 ^ 32 → ⊥ = λ fits. parse_digits numerals {E = E} 32 w (Err e) h (parts w some).1 ((parts w some).0, fits) in
+      ap Some (sym (min-eq_right (omega (arith, large)))) ∙ sym (cond-true _ _ _ some)
+
+  pub number_read : (r : Result ℕ E) → ParsesUnsigned 64 10 w r → result_ok r ≡ number_of w
+  number_read (Ok n) h =
+      let p = parse_digits numerals {E = E} 64 w (Ok n) h (parts w some).1 in
+      ap Some p.1 ∙ sym (cond-true _ _ _ (and_from _ _ some (lt-ltb (digits_value 10 w) 18446744073709551616 p.0.1)))
+  number_read (Err e) h =
+      let large : digits_value 10 w < 2 ^ 64 → ⊥ = λ fits. parse_digits numerals {E = E} 64 w (Err e) h (parts w some).1 ((parts w some).0, fits) in
+      sym (cond-false _ _ _ (and_right (is_figure w) _ (le-ltb (digits_value 10 w) 18446744073709551616 (omega (arith, large)))))

@@ -1,3 +1,3 @@
 pub mod Digits
-pub mod Lines
+pub mod Cut
 pub mod Parted

@@ -1,13 +1,13 @@
 -- Figures: words of decimal digits.
-use Rattle.std.specs.Prelude.{ℕ, ◌^◌, min, Bool, true, cond, ◌&&◌, List, [], ◌∷◌, length, Some, None, Option, nat_le, nat_lt}
+use Rattle.std.specs.Prelude.{ℕ, ◌^◌, min, Bool, cond, ◌&&◌, List, length, Some, None, Option, nat_le, nat_lt}
+use Rattle.std.specs.List.{list_all}
 use Rattle.std.specs.Str.Parse.{digits_value}
 
 abbrev pub digit : ℕ → Bool
 digit c = nat_le 48 c && nat_le c 57
 
 abbrev pub all_digits : List ℕ → Bool
-all_digits [] = true
-all_digits (c ∷ cs) = digit c && all_digits cs
+all_digits w = list_all digit w
 
 -- a word of digits, one at least
 abbrev pub is_figure : List ℕ → Bool

@@ -1,2 +1,4 @@
 pub mod Pieces
 pub mod Figures
+pub mod Numbered
+pub mod Messages

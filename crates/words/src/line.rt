@@ -19,15 +19,20 @@ impl<'a> Words<'a> {
             rest: without_comment(line),
         }
     }
+}
+
+impl<'a> Iterator for Words<'a> {
+    ghost use Rattle.std.specs.Iterator.{YieldsFirstRef, item_count};
+
+    type Item = &'a [u8];
+
+    ghost next_gives = { YieldsFirstRef left };
+
+    ghost remaining = { item_count left };
 
     // Takes the next word, if there is one.
-    pub fn next(&mut self) -> Option<&'a [u8]>
-        ensures { MatchOption result (left self.old ≡ []) (λ word. left self.old ≡ word.now ∷ left self.new) }
-    {
-        let (word, behind) = next_word(self.rest);
-        if word.is_empty() {
-            return None;
-        }
+    fn next(&mut self) -> Option<&'a [u8]> {
+        let (word, behind) = next_word(self.rest)?;
         self.rest = behind;
         Some(word)
     }

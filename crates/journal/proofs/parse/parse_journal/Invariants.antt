@@ -1,12 +1,15 @@
-use Rattle.std.proofs.Common.{◌≡◌, ◌+◌, ◌≤◌, length}
-use Rattle.words.specs.Pieces.{lines}
+use Rattle.std.proofs.Common.{◌≡◌, ℕ, ◌+◌, ◌≤◌, List, length}
+use Rattle.words.specs.Numbered.{numbered, lines_left}
 use Rattle.journal.specs.Lines.{saying}
 use Rattle.journal.specs.Text.{read_on, journal_of}
 use Rattle.journal.proofs.parse.parse_journal.Given as goal
 
 -- what is left gives what the whole gives
-abbrev pub invariant-loop-rest : goal.invariant-loop-rest
-invariant-loop-rest l = (read_on l.lines (saying l.draft) (lines l.rest) ≡ journal_of l.text) × (l.lines + length l.rest ≤ length l.text)
-
-abbrev pub decreases-loop-rest : goal.decreases-loop-rest
-decreases-loop-rest l = length l.rest
+abbrev pub invariant-loop-line : goal.invariant-loop-line
+invariant-loop-line l =
+    (goal.iterator-loop-line).can_next l.line-iterator
+    × (goal.iterator-loop-line).is_finite l.line-iterator
+    × (more : List (List ℕ))
+    × (lines_left l.line-iterator ≡ numbered l.last more)
+    × (read_on l.last (saying l.draft) more ≡ journal_of l.text)
+    × (l.last + length more ≤ length l.text)

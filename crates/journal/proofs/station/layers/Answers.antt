@@ -8,7 +8,7 @@ use Rattle.journal.proofs.station.layers.Goals as goal
 pub returns-in_err-factor : goal.returns-in_err-factor
 returns-in_err-factor c =
     let p = err_from_is_err_and c.from_residual.result c.from_residual.ensures.1 in
-    let some : left c.loop-words.words ≡ c.in-Some.field-0.now ∷ left c.next.new.self = ap left (sym c.loop-words.invariant.1) ∙ c.in-Some.ensures in
+    let some : left c.loop-words.words ≡ c.in-Some.field-0.now ∷ left c.next.new.self = ap left (sym c.loop-words.invariant.1) ∙ c.in-Some.ensures.steps in
     rw (p.1, p.2) (sym c.loop-words.invariant.0 ∙ layers_stop c.loop-words.factors.items (left c.loop-words.words) _ (omega (arith, ap length some)) c.in_err-factor.ensures)
 
 pub loop-words-smaller : goal.loop-words-smaller
@@ -26,5 +26,5 @@ loop-words-preserved c = (
 
 pub returns : goal.returns
 returns c =
-    let none : left c.loop-words.words ≡ [] = ap left (sym c.loop-words.invariant.1) ∙ c.in_default.ensures in
+    let none : left c.loop-words.words ≡ [] = ap left (sym c.loop-words.invariant.1) ∙ c.in_default.ensures.steps.0 in
     sym c.loop-words.invariant.0 ∙ ap (layers c.loop-words.factors.items) none ∙ layers_end c.loop-words.factors.items

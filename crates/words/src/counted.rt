@@ -1,4 +1,7 @@
 // A count with its noun, as `1 station` or `27 calls`.
+ghost use Rattle.std.specs.Prelude.{Some};
+ghost use Rattle.words.specs.Messages.{counted_text};
+
 use std::fmt;
 
 #[derive(Clone, Copy)]
@@ -9,9 +12,10 @@ pub struct Counted {
 }
 
 impl fmt::Display for Counted {
+    ghost output = { λ c. Some (counted_text c.count c.noun.now) };
+
     fn fmt<W: fmt::Write>(&self, f: &mut fmt::Formatter<W>) -> fmt::Result {
-        let count = self.count;
-        let noun = self.noun;
+        let Counted { count, noun } = *self;
         if count == 1 {
             write!(f, "1 {noun}")
         } else {
