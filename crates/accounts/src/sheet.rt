@@ -6,7 +6,7 @@ use rates::HEADS;
 pub mod blank;
 
 // A head's line: the rates, grains per kW or per kWh, and the account as it then stands, in grains.
-#[derive(Clone, Copy)]
+#[derive(Clone, Copy, Default)]
 pub struct HeadLine {
     pub actual: u64,
     pub published: u64,

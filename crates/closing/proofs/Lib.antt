@@ -1,4 +1,5 @@
 pub mod Bounds
 pub mod Costs
 pub mod Discovery
-pub mod Answering
+pub mod Settling
+pub mod Made

@@ -1,11 +1,9 @@
--- What is found for a head, and what refuses a month, by what the parts of a closing have in hand.
-use Rattle.std.specs.Prelude.{◌≡◌, ℕ, ◌+◌, ◌*◌, ◌/◌, ◌%◌, ◌<◌, ◌≤◌, List, ℤ, pos, ◌+ℤ◌, ◌-ℤ◌, ◌*ℤ◌, slice_index, slice_index_or, unsigned_abs}
+-- What is found for a head, by what the parts of a closing have in hand.
+use Rattle.std.specs.Prelude.{◌≡◌, ℕ, ◌+◌, ◌*◌, ◌/◌, ◌%◌, ◌<◌, ◌≤◌, List, ℤ, pos, ◌-ℤ◌, ◌*ℤ◌, slice_index, slice_index_or, unsigned_abs}
 use Rattle.std.proofs.Common.{lit≤}
-use Rattle.accounts.specs.declared.books.Books.{Books}
 use Rattle.accounts.specs.declared.month.Month.{Month}
-use Rattle.accounts.specs.Limits.{balance_limit, carry_limit}
-use Rattle.accounts.specs.Books.{account_at}
-use Rattle.settlement.specs.Closing.{Case, quantity_in, limit_of, actual, carry, margin, difference}
+use Rattle.accounts.specs.Limits.{carry_limit}
+use Rattle.settlement.specs.Closing.{Case, heads, actual, carry, margin, difference}
 use Rattle.closing.specs.declared.finding.Finding.{Finding}
 
 abbrev pub no_finding : Finding
@@ -26,22 +24,13 @@ pub record Found (c : Case) (k : ℕ) (f : Finding) : Type 0 where
   pub difference_is : f.difference ≡ difference c k
   pub modest : Modest c.month k f
 
+-- what is found for each head
+abbrev pub AllFound : Case → List Finding → Type 0
+AllFound c fs = (k : ℕ) → k < heads c → Found c k (finding_at fs k)
+
 -- what an interval spreads, and its margin
 abbrev pub spread_of : ℕ → ℕ → ℕ → ℕ
 spread_of pool sent allowed = pool / sent * allowed + pool % sent
 
 abbrev pub margin_of : ℕ → ℕ → ℕ → ℤ
 margin_of pool sent allowed = pos (pool / sent) *ℤ (pos sent -ℤ pos allowed)
-
--- the refusals, in the order of their tests
-abbrev pub NoneTaken : Month → ℕ → Type 0
-NoneTaken m k = quantity_in m k ≡ 0
-
-abbrev pub Misfit : ℕ → Month → ℕ → Type 0
-Misfit revenues m k = (revenues < k) × (quantity_in m k ≤ slice_index m.sent k → slice_index m.sent k ≤ 2 * quantity_in m k → ⊥)
-
-abbrev pub OverAt : ℕ → List Finding → ℕ → Type 0
-OverAt revenues fs k = limit_of revenues k < (finding_at fs k).actual
-
-abbrev pub PastAt : Books → List Finding → ℕ → Type 0
-PastAt b fs k = balance_limit < unsigned_abs ((account_at b k).balance +ℤ (finding_at fs k).difference)

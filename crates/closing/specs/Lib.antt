@@ -1,4 +1,4 @@
 pub mod Limits
+pub mod Cases
 pub mod Findings
 pub mod Bills
-pub mod Accepted

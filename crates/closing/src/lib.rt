@@ -2,6 +2,7 @@
 #![tactic(auto)]
 
 mod bills;
+mod case;
 mod finding;
 mod findings;
 mod month;

@@ -1,53 +1,42 @@
 // The closing of a month.
-ghost use Rattle.std.specs.Prelude.{ℕ, ◌<◌};
-ghost use Rattle.methodology.specs.Heads.{heads_of};
 ghost use Rattle.accounts.specs.Sums.{Never};
 ghost use Rattle.accounts.specs.Rules.{rules_of};
-ghost use Rattle.settlement.specs.Closing.{case_of};
-ghost use Rattle.settlement.specs.Closed.{Answer};
+ghost use Rattle.settlement.specs.Closing.{case_of, heads, Past};
+ghost use Rattle.settlement.specs.Closed.{Answer, Closed};
 ghost use Rattle.settlement.specs.Law.{LawfulIfAccepted, EveryClosing};
-ghost use Rattle.closing.specs.Findings.{finding_at, Modest, PastAt};
-ghost use Rattle.closing.specs.Accepted.{Accepted};
+ghost use Rattle.closing.specs.Cases.{shows};
+ghost use Rattle.closing.specs.Findings.{AllFound};
 
-use crate::bills::{bills_of, fractions_after};
+use crate::bills::fractions_after;
+use crate::case::Case;
 use crate::finding::Finding;
-use crate::findings::findings_of;
-use crate::refusals::{first_empty, first_over, first_past, first_unsupplied};
-use crate::results::{lines_of, margin_of, settled_accounts};
 use accounts::{Books, Month, Sheet};
-use methodology::{Methodology, Shape};
+use methodology::Methodology;
 use rates::{HEADS, Rates, Revenues};
 use settlement::CloseFault;
 
-// Writes books and sheet of a month that no test refuses.
-fn accept(
-    books: &mut Books,
-    rates: &Rates,
-    month: &Month,
-    findings: &[Finding; HEADS],
-    shape: Shape,
-    number: u8,
-    sheet: &mut Sheet,
-)
-    requires within { Never (PastAt books.old findings.now) (heads_of shape) }
-    requires modest { (k : ℕ) → k < heads_of shape → Modest month.now k (finding_at findings.now k) }
-    ensures { Accepted books.old rates.now.published month.now findings.now shape number sheet.new books.new }
-{
-    let n = shape.heads();
-    let accounts = settled_accounts(books, findings, n);
-    let licensees = bills_of(books, rates, month, n);
-    let fractions = fractions_after(&licensees, &books.fractions);
-    *sheet = Sheet {
-        month: number,
-        shape,
-        heads: lines_of(rates, &accounts, findings, n),
-        licensees,
-        margin: margin_of(month, findings, n),
-    };
-    *books = Books {
-        accounts,
-        fractions,
-    };
+impl<M: Methodology> Case<'_, M> {
+    // Fills in the sheet of a month that no test refuses. The books are those after the closing.
+    fn accept(&self, findings: &[Finding; HEADS], sheet: &mut Sheet) -> Books
+        requires found { AllFound (shows M.Methodology self.now) findings.now }
+        requires within { Never (Past (shows M.Methodology self.now)) (heads (shows M.Methodology self.now)) }
+        ensures { Closed (shows M.Methodology self.now) sheet.new result }
+    {
+        let accounts = self.accounts_after(findings);
+        let licensees = self.bills();
+        let fractions = fractions_after(&licensees, &self.books.fractions);
+        *sheet = Sheet {
+            month: self.number,
+            shape: M::shape(),
+            heads: self.lines(&accounts, findings),
+            licensees,
+            margin: self.margin(findings),
+        };
+        Books {
+            accounts,
+            fractions,
+        }
+    }
 }
 
 // Closes the month with that number in the year, and fills in the sheet. The caller states how many readings and deliveries
@@ -70,21 +59,28 @@ pub fn close<M: Methodology>(
     if readings != month.readings() || deliveries != month.deliveries() {
         return Err(CloseFault::Counts);
     }
-    let shape = M::shape();
-    let n = shape.heads();
-    if let Some(head) = first_empty(month, n) {
+    let case = Case {
+        methodology: m,
+        books: &*books,
+        rates,
+        revenues,
+        number,
+        month,
+    };
+    if let Some(head) = case.first_empty() {
         return Err(CloseFault::NoQuantity(head));
     }
-    if let Some(head) = first_unsupplied(month, shape.revenues, n) {
+    if let Some(head) = case.first_unsupplied() {
         return Err(CloseFault::Supply(head));
     }
-    let findings = findings_of(m, books, rates, revenues, number, month, n);
-    if let Some(head) = first_over(&findings, &shape, n) {
+    let findings = case.findings();
+    if let Some(head) = case.first_over(&findings) {
         return Err(CloseFault::RateOverLimit(head));
     }
-    if let Some(head) = first_past(books, &findings, n) {
+    if let Some(head) = case.first_past(&findings) {
         return Err(CloseFault::BalancePast(head));
     }
-    accept(books, rates, month, &findings, shape, number, sheet);
+    let after = case.accept(&findings, sheet);
+    *books = after;
     Ok(())
 }

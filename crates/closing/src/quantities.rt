@@ -3,35 +3,55 @@ ghost use Rattle.std.specs.Prelude.{◌≡◌, ◌/◌, ◌%◌, ◌<◌, ◌≤
 ghost use Rattle.methodology.specs.Limits.{head_limit};
 ghost use Rattle.accounts.specs.Limits.{month_energy_limit, carry_limit};
 ghost use Rattle.accounts.specs.Months.{taken};
-ghost use Rattle.settlement.specs.Closing.{quantity_in};
+ghost use Rattle.settlement.specs.Closing.{heads, quantity_in, quantity};
+ghost use Rattle.closing.specs.Cases.{shows};
 ghost use Rattle.closing.specs.Limits.{difference_limit};
 
-use accounts::{Delivery, LICENSEES, Month};
+use crate::case::Case;
+use accounts::{Delivery, Month};
 use arith::split;
+use methodology::Methodology;
 
 // What a licensee took under a head.
-pub fn taken_by(licensee: &Option<Delivery>, k: usize) -> u64
+fn taken_by(licensee: &Option<Delivery>, k: usize) -> u64
     requires { k < head_limit }
     ensures value { result ≡ taken licensee.now k }
     ensures most { result ≤ month_energy_limit }
 {
-    match licensee {
-        Some(delivery) => delivery.taken[k],
-        None => 0,
-    }
+    licensee.map_or(0, |delivery| delivery.taken[k])
 }
 
 // A head's quantity.
-pub fn quantity_of(month: &Month, k: usize) -> u64
+fn quantity_of(month: &Month, k: usize) -> u64
     requires { k < head_limit }
     ensures value { result ≡ quantity_in month.now k }
     ensures most { result ≤ carry_limit }
 {
     let mut sum = 0;
-    for l in 0..LICENSEES {
-        sum += taken_by(&month.licensees[l], k);
+    for licensee in &month.licensees {
+        sum += taken_by(licensee, k);
     }
     sum
+}
+
+impl<M: Methodology> Case<'_, M> {
+    // How many heads there are.
+    pub fn heads(&self) -> usize
+        ensures value { result ≡ heads (shows M.Methodology self.now) }
+        ensures few { result ≤ head_limit }
+    {
+        M::shape().heads()
+    }
+
+    // A head's quantity. A head goes by its place k, from 0.
+    #[tactic(auto, unfolding(settlement::specs::Closing::quantity))]
+    pub fn quantity(&self, k: usize) -> u64
+        requires { k < head_limit }
+        ensures value { result ≡ quantity (shows M.Methodology self.now) k }
+        ensures most { result ≤ carry_limit }
+    {
+        quantity_of(self.month, k)
+    }
 }
 
 // An amount over a quantity that is there, and what is left over.
@@ -49,5 +69,6 @@ pub fn difference_of(quantity: u64, actual: u64, published: u64) -> i128
     ensures value { result ≡ pos quantity *ℤ (pos actual -ℤ pos published) }
     ensures size { unsigned_abs result ≤ difference_limit }
 {
-    (quantity as u128 * actual as u128) as i128 - (quantity as u128 * published as u128) as i128
+    (u128::from(quantity) * u128::from(actual)) as i128
+        - (u128::from(quantity) * u128::from(published)) as i128
 }

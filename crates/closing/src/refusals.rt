@@ -1,47 +1,19 @@
 // The tests of a month, each over all heads. A head is told by its number, which counts from 1.
-ghost use Rattle.std.specs.Prelude.{◌≡◌, ◌<◌, ◌≤◌, true, false, ◌+ℤ◌, MatchOption, unsigned_abs};
+ghost use Rattle.std.specs.Prelude.{◌≡◌, ◌<◌, ◌≤◌, true, false, ◌+ℤ◌, unsigned_abs};
 ghost use Rattle.methodology.specs.Limits.{head_limit};
 ghost use Rattle.accounts.specs.Limits.{balance_limit};
-ghost use Rattle.accounts.specs.Sums.{First, Never};
-ghost use Rattle.settlement.specs.Closing.{limit_of};
-ghost use Rattle.closing.specs.Findings.{NoneTaken, Misfit, OverAt, PastAt};
+ghost use Rattle.settlement.specs.Closing.{limit_of, Empty, Unsupplied, Over, Past};
+ghost use Rattle.closing.specs.Cases.{shows, Searched};
+ghost use Rattle.closing.specs.Findings.{Found, AllFound, finding_at};
 
+use crate::case::Case;
 use crate::finding::Finding;
-use crate::quantities::quantity_of;
-use accounts::{Account, Books, Month};
-use methodology::Shape;
+use accounts::Account;
+use methodology::{Methodology, Shape};
 use rates::HEADS;
 
 // Most that a balance may be in size, grains.
-const BALANCE_LIMIT: i128 = 4_000_000_000_000_000_000;
-
-// The first head that has no quantity.
-pub fn first_empty(month: &Month, n: usize) -> Option<usize>
-    requires { n ≤ head_limit }
-    ensures { MatchOption result (Never (NoneTaken month.now) n) (λ i. First (NoneTaken month.now) n i) }
-{
-    for k in 0..n {
-        if quantity_of(month, k) == 0 {
-            return Some(k + 1);
-        }
-    }
-    None
-}
-
-// The first interval whose energy sent in is under what was delivered, or over twice that.
-pub fn first_unsupplied(month: &Month, revenues: usize, n: usize) -> Option<usize>
-    requires { n ≤ head_limit }
-    ensures { MatchOption result (Never (Misfit revenues month.now) n) (λ i. First (Misfit revenues month.now) n i) }
-{
-    for k in 0..n {
-        let delivered = quantity_of(month, k);
-        let sent = month.sent[k];
-        if k > revenues && (sent < delivered || sent > 2 * delivered) {
-            return Some(k + 1);
-        }
-    }
-    None
-}
+const BALANCE_LIMIT: u128 = 4_000_000_000_000_000_000;
 
 // A head's rate limit.
 fn limit_at(shape: &Shape, k: usize) -> u64
@@ -51,37 +23,96 @@ fn limit_at(shape: &Shape, k: usize) -> u64
     shape.head(k + 1).rate_limit()
 }
 
-// The first head whose actual rate passes its limit.
-pub fn first_over(findings: &[Finding; HEADS], shape: &Shape, n: usize) -> Option<usize>
-    requires { n ≤ head_limit }
-    ensures { MatchOption result (Never (OverAt shape.now.revenues findings.now) n) (λ i. First (OverAt shape.now.revenues findings.now) n i) }
-{
-    for k in 0..n {
-        if findings[k].actual > limit_at(shape, k) {
-            return Some(k + 1);
-        }
-    }
-    None
-}
-
 // Whether a balance would pass its limit in size.
 fn passes(account: &Account, found: &Finding) -> bool
     ensures over { result ≡ true → balance_limit < unsigned_abs (account.now.balance +ℤ found.now.difference) }
     ensures within { result ≡ false → unsigned_abs (account.now.balance +ℤ found.now.difference) ≤ balance_limit }
 {
-    let after = account.balance as i128 + found.difference;
-    after > BALANCE_LIMIT || after < -BALANCE_LIMIT
+    let after = i128::from(account.balance) + found.difference;
+    after.unsigned_abs() > BALANCE_LIMIT
 }
 
-// The first head whose balance would pass its limit in size.
-pub fn first_past(books: &Books, findings: &[Finding; HEADS], n: usize) -> Option<usize>
-    requires { n ≤ head_limit }
-    ensures { MatchOption result (Never (PastAt books.now findings.now) n) (λ i. First (PastAt books.now findings.now) n i) }
-{
-    for k in 0..n {
-        if passes(&books.accounts[k], &findings[k]) {
-            return Some(k + 1);
-        }
+impl<M: Methodology> Case<'_, M> {
+    // Whether an interval's energy sent in is under what was delivered, or over twice that.
+    fn is_unsupplied(&self, k: usize) -> bool
+        requires { k < head_limit }
+        ensures misfit { result ≡ true → Unsupplied (shows M.Methodology self.now) k }
+        ensures fitting { result ≡ false → Unsupplied (shows M.Methodology self.now) k → ⊥ }
+    {
+        let delivered = self.quantity(k);
+        let sent = self.month.sent[k];
+        k > M::shape().revenues && (sent < delivered || sent > 2 * delivered)
     }
-    None
+
+    // Whether a head has no quantity.
+    fn is_empty(&self, k: usize) -> bool
+        requires { k < head_limit }
+        ensures none { result ≡ true → Empty (shows M.Methodology self.now) k }
+        ensures some { result ≡ false → Empty (shows M.Methodology self.now) k → ⊥ }
+    {
+        self.quantity(k) == 0
+    }
+
+    // Whether an actual rate passes its limit.
+    fn is_over(&self, findings: &[Finding; HEADS], k: usize) -> bool
+        requires place { k < head_limit }
+        requires found { Found (shows M.Methodology self.now) k (finding_at findings.now k) }
+        ensures over { result ≡ true → Over (shows M.Methodology self.now) k }
+        ensures within { result ≡ false → Over (shows M.Methodology self.now) k → ⊥ }
+    {
+        findings[k].actual > limit_at(&M::shape(), k)
+    }
+
+    // Whether a balance would pass its limit in size.
+    fn is_past(&self, findings: &[Finding; HEADS], k: usize) -> bool
+        requires place { k < head_limit }
+        requires found { Found (shows M.Methodology self.now) k (finding_at findings.now k) }
+        ensures over { result ≡ true → Past (shows M.Methodology self.now) k }
+        ensures within { result ≡ false → Past (shows M.Methodology self.now) k → ⊥ }
+    {
+        passes(&self.account(k), &findings[k])
+    }
+
+    // The first head that has no quantity. The proof of a `find` stayed open here: `search` does not get from
+    // what the closure answers to the equation `quantity ≡ 0`.
+    pub fn first_empty(&self) -> Option<usize>
+        ensures { Searched (shows M.Methodology self.now) Empty result }
+    {
+        for k in 0..self.heads() {
+            if self.is_empty(k) {
+                return Some(k + 1);
+            }
+        }
+        None
+    }
+
+    // The first interval whose energy sent in does not fit what was delivered.
+    pub fn first_unsupplied(&self) -> Option<usize>
+        ensures { Searched (shows M.Methodology self.now) Unsupplied result }
+    {
+        (0..self.heads())
+            .find(|k| self.is_unsupplied(*k))
+            .map(|k| k + 1)
+    }
+
+    // The first head whose actual rate passes its limit.
+    pub fn first_over(&self, findings: &[Finding; HEADS]) -> Option<usize>
+        requires { AllFound (shows M.Methodology self.now) findings.now }
+        ensures { Searched (shows M.Methodology self.now) Over result }
+    {
+        (0..self.heads())
+            .find(|k| self.is_over(findings, *k))
+            .map(|k| k + 1)
+    }
+
+    // The first head whose balance would pass its limit in size.
+    #[tactic(auto, unfolding(settlement::specs::Closing::balance))]
+    pub fn first_past(&self, findings: &[Finding; HEADS]) -> Option<usize>
+        requires { AllFound (shows M.Methodology self.now) findings.now }
+        ensures { Searched (shows M.Methodology self.now) Past result }
+    {
+        (0..self.heads())
+            .find(|k| self.is_past(findings, *k))
+            .map(|k| k + 1)
+    }
 }

@@ -8,6 +8,13 @@ ghost use Rattle.closing.specs.Findings.{spread_of, margin_of};
 use crate::quantities::divided;
 use methodology::Methodology;
 
+// What a head spreads, and its margin, in grains.
+#[derive(Clone, Copy)]
+pub struct Spread {
+    pub amount: u64,
+    pub margin: i64,
+}
+
 // What an interval spreads, and its margin: its unit cost for the energy sent in that is not allowed supply.
 fn interval_spread<M: Methodology>(
     m: &M,
@@ -15,17 +22,20 @@ fn interval_spread<M: Methodology>(
     sent: u64,
     delivered: u64,
     factor: u32,
-) -> (u64, i64)
+) -> Spread
     requires ratio { (0 < delivered) × (OneToTwo delivered sent) }
     requires limits { (sent ≤ supply_limit) × ((factor ≤ factor_limit) × (pool ≤ pool_limit)) }
-    ensures value { result.0 ≡ spread_of pool sent ((M.meaning m.now).allowed sent delivered factor) }
-    ensures margin { result.1 ≡ margin_of pool sent ((M.meaning m.now).allowed sent delivered factor) }
-    ensures size { unsigned_abs result.1 ≤ pool }
+    ensures value { result.amount ≡ spread_of pool sent ((M.meaning m.now).allowed sent delivered factor) }
+    ensures margin { result.margin ≡ margin_of pool sent ((M.meaning m.now).allowed sent delivered factor) }
+    ensures size { unsigned_abs result.margin ≤ pool }
 {
     let supply = m.allowed_supply(sent, delivered, factor);
-    let (unit, rest) = divided(pool as u128, sent);
+    let (unit, rest) = divided(u128::from(pool), sent);
     let billed = unit as u64 * supply;
-    (billed + rest, (unit as u64 * sent) as i64 - billed as i64)
+    Spread {
+        amount: billed + rest,
+        margin: (unit as u64 * sent) as i64 - billed as i64,
+    }
 }
 
 // What a head spreads, and its margin; one that is billed by demand spreads its whole pool.
@@ -36,15 +46,18 @@ pub fn spread_of<M: Methodology>(
     sent: u64,
     delivered: u64,
     factor: u32,
-) -> (u64, i64)
+) -> Spread
     requires ratio { (0 < delivered) × ((M.shape.revenues < k → OneToTwo delivered sent)) }
     requires limits { (sent ≤ supply_limit) × ((factor ≤ factor_limit) × (pool ≤ pool_limit)) }
-    ensures value { result.0 ≡ (if nat_le k M.shape.revenues then pool else spread_of pool sent ((M.meaning m.now).allowed sent delivered factor)) }
-    ensures margin { result.1 ≡ (if nat_le k M.shape.revenues then pos 0 else margin_of pool sent ((M.meaning m.now).allowed sent delivered factor)) }
-    ensures size { unsigned_abs result.1 ≤ (if nat_le k M.shape.revenues then 0 else pool) }
+    ensures value { result.amount ≡ (if nat_le k M.shape.revenues then pool else spread_of pool sent ((M.meaning m.now).allowed sent delivered factor)) }
+    ensures margin { result.margin ≡ (if nat_le k M.shape.revenues then pos 0 else margin_of pool sent ((M.meaning m.now).allowed sent delivered factor)) }
+    ensures size { unsigned_abs result.margin ≤ (if nat_le k M.shape.revenues then 0 else pool) }
 {
     if k <= M::shape().revenues {
-        return (pool, 0);
+        return Spread {
+            amount: pool,
+            margin: 0,
+        };
     }
     interval_spread(m, pool, sent, delivered, factor)
 }

@@ -1,7 +1,6 @@
 // Books without money, and the tariff periods of an account.
-ghost use Rattle.std.specs.Prelude.{◌≡◌, ℕ, ◌<◌, slice_index_or};
-ghost use Rattle.methodology.specs.Limits.{head_limit};
-ghost use Rattle.accounts.specs.Books.{Unused, AccountBegun, PeriodBegun, earlier, no_account};
+ghost use Rattle.std.specs.Prelude.{◌≡◌};
+ghost use Rattle.accounts.specs.Books.{Unused, AccountBegun, PeriodBegun, earlier};
 
 use crate::account::Account;
 use crate::books::Books;
@@ -29,9 +28,8 @@ impl Books {
     pub fn begin_period(&mut self)
         ensures { PeriodBegun self.old self.new }
     {
-        let accounts = all_begun(&self.accounts);
         *self = Books {
-            accounts,
+            accounts: self.accounts.map(|account| account.begun()),
             fractions: self.fractions,
         };
     }
@@ -41,33 +39,20 @@ impl Books {
     pub fn earlier(&self) -> [i64; HEADS]
         ensures { result ≡ earlier self.now }
     {
-        let mut all = [0; HEADS];
-        for k in 0..HEADS {
-            all[k] = self.accounts[k].before;
+        self.accounts.map(|account| account.before)
+    }
+}
+
+impl Account {
+    // The account in the next period.
+    fn begun(self) -> Account
+        ensures { AccountBegun self result }
+    {
+        Account {
+            balance: self.balance,
+            opening: self.balance,
+            before: self.balance - self.opening,
+            carry: self.carry,
         }
-        all
     }
-}
-
-// An account in the next period.
-fn begun(account: &Account) -> Account
-    ensures { AccountBegun account.now result }
-{
-    Account {
-        balance: account.balance,
-        opening: account.balance,
-        before: account.balance - account.opening,
-        carry: account.carry,
-    }
-}
-
-// All accounts in the next period.
-fn all_begun(accounts: &[Account; HEADS]) -> [Account; HEADS]
-    ensures { (k : ℕ) → k < head_limit → AccountBegun (slice_index_or accounts.now k no_account) (slice_index_or result k no_account) }
-{
-    let mut all = *accounts;
-    for k in 0..HEADS {
-        all[k] = begun(&accounts[k]);
-    }
-    all
 }

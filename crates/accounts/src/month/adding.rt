@@ -4,7 +4,7 @@ ghost use Rattle.metering.specs.Limits.{block_count};
 ghost use Rattle.methodology.specs.Limits.{head_limit};
 ghost use Rattle.agreements.specs.Limits.{due_limit};
 ghost use Rattle.agreements.specs.Dues.{capacity_due, block_sum};
-ghost use Rattle.accounts.specs.Limits.{licensee_limit, balance_limit};
+ghost use Rattle.accounts.specs.Limits.{licensee_limit};
 ghost use Rattle.accounts.specs.Rules.{rules_of};
 ghost use Rattle.accounts.specs.Tables.{under};
 ghost use Rattle.accounts.specs.Months.{read_at, delivered_at, reading_answer, delivery_answer, Generated, Delivered};
@@ -60,37 +60,33 @@ fn generated<M: Methodology>(month: &Month, m: &M, reading: &Reading, dues: &Due
     requires moderate { (capacity_due dues.now ≤ due_limit) × (block_sum dues.now ≤ due_limit) }
     ensures { Generated (rules_of M.shape (M.meaning m.now)) month.now reading.now dues.now result }
 {
-    let income = with_dues(&month.income, m, dues);
-    let sent = with_energy(&month.sent, m, reading);
     let mut read = month.read;
-    read[reading.number as usize - 1] = true;
+    read[usize::from(reading.number) - 1] = true;
     Month {
-        income,
-        sent,
+        income: with_dues(month, m, dues),
+        sent: with_energy(month, m, reading),
         read,
         licensees: month.licensees,
     }
 }
 
-// Income by head, and the dues on top of it.
-fn with_dues<M: Methodology>(income: &[u64; HEADS], m: &M, dues: &Dues) -> [u64; HEADS]
-    requires low { (k : ℕ) → k < head_limit → slice_index income.now k ≤ balance_limit }
-    requires moderate { (capacity_due dues.now ≤ due_limit) × (block_sum dues.now ≤ due_limit) }
-    ensures value { (k : ℕ) → k < head_limit → slice_index result k ≡ slice_index income.now k + under M.shape.revenues (M.meaning m.now).interval (capacity_due dues.now) 0 dues.now.blocks k }
+// A month's income by head, and the dues on top of it.
+fn with_dues<M: Methodology>(month: &Month, m: &M, dues: &Dues) -> [u64; HEADS]
+    requires { (capacity_due dues.now ≤ due_limit) × (block_sum dues.now ≤ due_limit) }
+    ensures value { (k : ℕ) → k < head_limit → slice_index result k ≡ slice_index month.now.income k + under M.shape.revenues (M.meaning m.now).interval (capacity_due dues.now) 0 dues.now.blocks k }
     ensures full { length dues.now.blocks ≡ block_count }
 {
     added(
-        income,
+        &month.income,
         &by_head(m, dues.capacity_due() as u64, 0, &dues.blocks),
     )
 }
 
-// Energy sent in by head, and the reading's on top of it.
-fn with_energy<M: Methodology>(sent: &[u64; HEADS], m: &M, reading: &Reading) -> [u64; HEADS]
-    requires { (k : ℕ) → k < head_limit → slice_index sent.now k ≤ balance_limit }
-    ensures { (k : ℕ) → k < head_limit → slice_index result k ≡ slice_index sent.now k + under M.shape.revenues (M.meaning m.now).interval 0 0 reading.now.blocks k }
+// A month's energy sent in by head, and the reading's on top of it.
+fn with_energy<M: Methodology>(month: &Month, m: &M, reading: &Reading) -> [u64; HEADS]
+    ensures { (k : ℕ) → k < head_limit → slice_index result k ≡ slice_index month.now.sent k + under M.shape.revenues (M.meaning m.now).interval 0 0 reading.now.blocks k }
 {
-    added(sent, &by_head(m, 0, 0, &widened(&reading.blocks)))
+    added(&month.sent, &by_head(m, 0, 0, &widened(&reading.blocks)))
 }
 
 // The month with a licensee's reading.
@@ -101,7 +97,7 @@ fn delivered<M: Methodology>(month: &Month, m: &M, reading: &Reading) -> Month
     let demand = u64::from(reading.demand);
     let taken = by_head(m, demand, demand, &widened(&reading.blocks));
     let mut licensees = month.licensees;
-    licensees[reading.number as usize - 1] = Some(Delivery { taken });
+    licensees[usize::from(reading.number) - 1] = Some(Delivery { taken });
     Month {
         income: month.income,
         sent: month.sent,

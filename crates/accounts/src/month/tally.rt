@@ -5,6 +5,7 @@ ghost use Rattle.accounts.specs.Months.{Opened, readings_in, deliveries_in, read
 
 use crate::delivery::LICENSEES;
 use crate::month::{Month, PLACES};
+use metering::index_of;
 use rates::HEADS;
 
 impl Month {
@@ -21,54 +22,41 @@ impl Month {
     }
 
     // How many places were read.
+    #[tactic(auto, unfolding(crate::specs::Counts::count_true))]
     pub fn readings(&self) -> usize
         ensures value { result ≡ readings_in self.now }
         ensures bound { result ≤ place_limit }
     {
-        let mut readings = 0;
-        for flag in &self.read {
-            if *flag {
-                readings += 1;
-            }
-        }
-        readings
+        self.read.iter().filter(|read| **read).count()
     }
 
     // How many licensees delivered.
+    #[tactic(auto, unfolding(crate::specs::Counts::count_some))]
     pub fn deliveries(&self) -> usize
         ensures value { result ≡ deliveries_in self.now }
         ensures bound { result ≤ licensee_limit }
     {
-        let mut deliveries = 0;
-        for licensee in &self.licensees {
-            if licensee.is_some() {
-                deliveries += 1;
-            }
-        }
-        deliveries
+        self.licensees
+            .iter()
+            .filter(|licensee| licensee.is_some())
+            .count()
     }
 
     // Whether a place was read. Places count from 1; one that no market has was not.
     pub fn is_read(&self, place: u8) -> bool
         ensures { result ≡ (nat_le 1 place && read_at self.now place) }
     {
-        let place = usize::from(place);
-        if 1 <= place && place <= PLACES {
-            self.read[place - 1]
-        } else {
-            false
-        }
+        index_of(usize::from(place), PLACES).is_some_and(|i| self.read[i])
     }
 
     // Whether a licensee delivered. Licensees count from 1; one that no market has did not.
     pub fn has_delivered(&self, licensee: u8) -> bool
         ensures { result ≡ (nat_le 1 licensee && delivered_at self.now licensee) }
     {
-        let licensee = usize::from(licensee);
-        if 1 <= licensee && licensee <= LICENSEES {
-            self.licensees[licensee - 1].is_some()
-        } else {
-            false
+        // As a closure, `|i| self.licensees[i].is_some()` would leave the bound of `i` open.
+        match index_of(usize::from(licensee), LICENSEES) {
+            Some(i) => self.licensees[i].is_some(),
+            None => false,
         }
     }
 }

@@ -11,16 +11,10 @@ impl Sheet {
     pub fn empty(shape: Shape) -> Sheet
         ensures { Unfilled shape result }
     {
-        let none = HeadLine {
-            actual: 0,
-            published: 0,
-            balance: 0,
-            carry: 0,
-        };
         Sheet {
             month: 0,
             shape,
-            heads: [none; HEADS],
+            heads: [HeadLine::default(); HEADS],
             licensees: [None; LICENSEES],
             margin: 0,
         }

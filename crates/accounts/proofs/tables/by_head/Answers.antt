@@ -20,7 +20,7 @@ overflow_add-all g c =
     let blocks = c.args.blocks.now in
     let here = g.met.M.Methodology.placed c.args.m.now i c.loop-block-test.true in
     let few = g.M.Methodology.shape.few in
-    let at : c.head_of_block-head.result - 1 ≡ r + f i = omega (arith, c.head_of_block-head.ensures.value c.loop-block-test.true) in
+    let at : c.head_of_block.result - 1 ≡ r + f i = omega (arith, c.head_of_block.ensures.value c.loop-block-test.true) in
     let old = under_at r f c.args.first c.args.others blocks i (f i) here.0 in
     let inv = c.loop-block.invariant.1 (r + f i) (omega (arith, here, few)) in
     rw at (record { fits = omega (arith, old, inv, part_le f blocks (f i) i, sum_next (λ b. get_or blocks b 0) i, sum_upto (λ b. get_or blocks b 0) (i + 1) block_count (omega arith), c.requires) })
@@ -33,7 +33,7 @@ loop-block-preserved g c =
     let blocks = c.args.blocks.now in
     let here = g.met.M.Methodology.placed c.args.m.now i c.loop-block-test.true in
     let few = g.M.Methodology.shape.few in
-    let at : c.head_of_block-head.result - 1 ≡ r + f i = omega (arith, c.head_of_block-head.ensures.value c.loop-block-test.true) in (
+    let at : c.head_of_block.result - 1 ≡ r + f i = omega (arith, c.head_of_block.ensures.value c.loop-block-test.true) in (
       length-set _ _ _ ∙ c.loop-block.invariant.0,
       λ k h. rw at (under_more r f c.args.first c.args.others blocks c.loop-block.all i c.loop-block.invariant.0 here.0 (omega (arith, here, few)) c.loop-block.invariant.1 k h),
     )

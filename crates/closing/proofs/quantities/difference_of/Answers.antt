@@ -10,21 +10,9 @@ use Rattle.closing.proofs.quantities.difference_of.Goals as goal
 product_le : (q a : ℕ) → q ≤ carry_limit → a < 2 ^ 64 → q * a ≤ difference_limit
 product_le q a h p = omega (arith, mul-le q a carry_limit (2 ^ 64) h (omega arith))
 
-pub overflow_cast-result-3 : goal.overflow_cast-result-3
-overflow_cast-result-3 c = let a = product_le c.args.quantity c.args.actual c.requires (omega arith) in omega (arith, ints)
-
-pub overflow_cast-result-6 : goal.overflow_cast-result-6
-overflow_cast-result-6 c = let a = product_le c.args.quantity c.args.published c.requires (omega arith) in omega (arith, ints)
-
-pub overflow_sub-result : goal.overflow_sub-result
-overflow_sub-result c =
-    let a = product_le c.args.quantity c.args.actual c.requires (omega arith) in
-    let b = product_le c.args.quantity c.args.published c.requires (omega arith) in
-    omega (arith, ints)
-
-pub returns : goal.returns
-returns c =
+pub returns-clause-value : goal.returns-clause-value
+returns-clause-value c =
     let e = times_sub c.args.quantity c.args.actual c.args.published in
     let a = product_le c.args.quantity c.args.actual c.requires (omega arith) in
     let b = product_le c.args.quantity c.args.published c.requires (omega arith) in
-    record { value = omega (arith, ints); size = omega (arith, ints) }
+    rw (c.from.ensures, c.from-2.ensures, c.from-3.ensures, c.from-4.ensures) (omega (arith, ints))

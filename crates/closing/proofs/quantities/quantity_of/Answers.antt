@@ -4,11 +4,11 @@ use Rattle.accounts.proofs.Sums.{sum_none, sum_next}
 use Rattle.accounts.specs.Months.{licensee_at, taken}
 use Rattle.closing.proofs.quantities.quantity_of.Goals as goal
 
-pub loop-l-init : goal.loop-l-init
-loop-l-init c = (sym (sum_none (λ i. taken (licensee_at c.args.month.now i) c.args.k)), omega arith)
+pub loop-licensee-init : goal.loop-licensee-init
+loop-licensee-init c = (sym (sum_none (λ i. taken (licensee_at c.args.month.now i) c.args.k)), omega arith)
 
-pub loop-l-preserved : goal.loop-l-preserved
-loop-l-preserved c =
+pub loop-licensee-preserved : goal.loop-licensee-preserved
+loop-licensee-preserved c =
     let f : ℕ → ℕ = λ i. taken (licensee_at c.args.month.now i) c.args.k in
-    let e : c.taken_by-sum.result ≡ f c.loop-l.l = search (rules, get_or_read) in
-    (omega (arith, e, sum_next f c.loop-l.l, c.loop-l.invariant.0), omega (arith, c.loop-l.invariant.1, c.taken_by-sum.ensures.most))
+    let e : c.taken_by-sum.result ≡ f c.loop-licensee.licensee-index = search (rules, get_or_read) in
+    (omega (arith, e, sum_next f c.loop-licensee.licensee-index, c.loop-licensee.invariant.0), omega (arith, c.loop-licensee.invariant.1, c.taken_by-sum.ensures.most))

@@ -12,19 +12,13 @@ supply_is g c = c.allowed_supply-supply.ensures c.requires.limits.0 (omega arith
 costs : (g : given.Over) (c : goal.After-divided-unit g) → Priced c.args.pool c.args.sent c.allowed_supply-supply.result c.divided-unit.result.0 c.divided-unit.result.1
 costs g c =
     let law = g.met.M.Methodology.supplied c.args.m.now c.args.sent c.args.delivered c.args.factor c.requires.limits.0 c.requires.limits.1.0 c.requires.ratio.1 in
-    priced c.args.pool c.args.sent c.allowed_supply-supply.result c.divided-unit.result.0 c.divided-unit.result.1 c.divided-unit.ensures.rate c.divided-unit.ensures.rest (omega (arith, law, supply_is g c))
+    priced c.args.pool c.args.sent c.allowed_supply-supply.result c.divided-unit.result.0 c.divided-unit.result.1 (rw c.from.ensures at c.divided-unit.ensures.rate) (rw c.from.ensures at c.divided-unit.ensures.rest) (omega (arith, law, supply_is g c))
 
 pub overflow_mul-billed : goal.overflow_mul-billed
 overflow_mul-billed g c = record { fits = omega (arith, costs g c) }
 
-pub overflow_mul-result : goal.overflow_mul-result
-overflow_mul-result g c = record { fits = omega (arith, costs g c) }
-
 pub overflow_add-result : goal.overflow_add-result
 overflow_add-result g c = record { fits = omega (arith, costs g c) }
-
-pub overflow_cast-result-2 : goal.overflow_cast-result-2
-overflow_cast-result-2 g c = let p = costs g c in omega (arith, ints)
 
 pub overflow_cast-result-3 : goal.overflow_cast-result-3
 overflow_cast-result-3 g c = let p = costs g c in omega (arith, ints)
@@ -32,14 +26,12 @@ overflow_cast-result-3 g c = let p = costs g c in omega (arith, ints)
 pub overflow_sub-result : goal.overflow_sub-result
 overflow_sub-result g c = let p = costs g c in omega (arith, ints)
 
-pub returns : goal.returns
-returns g c =
+pub returns-clause-margin : goal.returns-clause-margin
+returns-clause-margin g c =
     let p = costs g c in
-    let supply = supply_is g c in
     let e = times_sub c.divided-unit.result.0 c.args.sent c.allowed_supply-supply.result in
-    record {
-      value = cc;
-      margin = (let same : _ ≡ pos c.divided-unit.result.0 *ℤ (pos c.args.sent -ℤ pos c.allowed_supply-supply.result) = omega (arith, ints) in
-          same ∙ margin_is c.args.pool c.args.sent c.allowed_supply-supply.result _ c.divided-unit.result.0 c.divided-unit.ensures.rate supply);
-      size = omega (arith, ints);
-    }
+    let same : _ ≡ pos c.divided-unit.result.0 *ℤ (pos c.args.sent -ℤ pos c.allowed_supply-supply.result) = omega (arith, ints) in
+    same ∙ margin_is c.args.pool c.args.sent c.allowed_supply-supply.result _ c.divided-unit.result.0 (rw c.from.ensures at c.divided-unit.ensures.rate) (supply_is g c)
+
+pub returns-clause-size : goal.returns-clause-size
+returns-clause-size g c = let p = costs g c in omega (arith, ints)

@@ -1,0 +1,16 @@
+-- The case that a closing has in hand, and what it looks for in it.
+use Rattle.std.specs.Prelude.{ℕ, Option, MatchOption}
+use Rattle.methodology.specs.declared.rules.Methodology.{Ghosts}
+use Rattle.accounts.specs.Rules.{rules_of}
+use Rattle.accounts.specs.Sums.{First, Never}
+use Rattle.settlement.specs.Closing.{Case as Seen, case_of, heads}
+use Rattle.closing.specs.declared.case.Case.{Case}
+
+-- by the meaning of its methodology
+abbrev pub shows : {M : Type 0} → Ghosts M → Case M → Seen
+shows methodology c =
+    case_of (rules_of methodology.shape (methodology.meaning c.methodology.now)) c.books.now c.rates.now c.revenues.now.yearly c.number c.month.now
+
+-- the answer of a test over all heads: it fails at none, or first at the head with this number
+abbrev pub Searched : Seen → (Seen → ℕ → Type 0) → Option ℕ → Type 0
+Searched c P head = MatchOption head (Never (P c) (heads c)) (λ h. First (P c) (heads c) h)
