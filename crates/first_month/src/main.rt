@@ -1,9 +1,7 @@
 // The first month of a market with one station and one licensee, closed and printed.
 #![tactic(auto)]
 
-use anyhow::anyhow;
-use sheet::{TEXT_LIMIT, write_sheet};
-use std::io::Write;
+use sheet::text_of;
 use worked_cases::first_month;
 
 // The number that the house's pay orders would bear.
@@ -11,10 +9,7 @@ const SERIAL: u64 = 1;
 
 fn main(rt: HostRuntime) -> anyhow::Result<()> {
     let month = first_month(SERIAL);
-    let mut buffer = [0; TEXT_LIMIT];
-    let Ok(size) = write_sheet(&month.sheet, &mut buffer) else {
-        return Err(anyhow!("the text is longer than the longest"));
-    };
-    rt.stdout().write_all(&buffer[..size])?;
+    let text = text_of(&month.sheet);
+    print!(rt; "{text}")?;
     Ok(())
 }

@@ -29,8 +29,8 @@ impl fmt::Display for Line<'_> {
     fn fmt<W: fmt::Write>(&self, f: &mut fmt::Formatter<W>) -> fmt::Result {
         let number = self.number;
         let orders = self.orders;
-        let verb = Verb::of(self.call);
-        let subject = Subject::of(self.call);
+        let verb = Verb::from(self.call);
+        let subject = Subject::from(self.call);
         match *self.answer {
             Answer::Accepted => write!(f, "{number} {verb} accepted{subject}"),
             Answer::Metered(dues) => write!(f, "{number} {verb} accepted{subject} dues {dues}"),

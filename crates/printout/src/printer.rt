@@ -1,11 +1,13 @@
 // Numbering the lines of a list, and the orders that are drawn in it.
-ghost use Rattle.std.specs.Prelude.{◌≡◌};
+ghost use Rattle.std.specs.Prelude.{◌≡◌, IfOk};
 ghost use Rattle.printout.specs.Counting.{next, orders_after};
 ghost use Rattle.printout.specs.Numbering.{NumberedAsNamed};
 
 use crate::line::{FileLine, Line};
 use crate::verb::Verb;
 use history::{Answer, Call};
+use sheet::text_of;
+use std::io;
 
 // How many lines there were, and how many of their calls drew an order.
 #[derive(Clone, Copy, PartialEq, Eq, Debug)]
@@ -67,5 +69,18 @@ impl Printer {
             verb,
             refusal,
         }
+    }
+
+    // Prints the next line: of a call and its answer, and under an accepted closing its sheet.
+    pub fn print(&mut self, rt: &HostRuntime, call: &Call, answer: &Answer) -> io::Result<()>
+        ensures { IfOk result (λ _. self.new ≡ record { lines = next self.old.lines; orders = orders_after self.old.orders answer.now }) }
+    {
+        let line = self.line(call, answer);
+        println!(rt; "{line}")?;
+        if let Answer::Closed(sheet) = answer {
+            let text = text_of(sheet);
+            print!(rt; "{text}")?;
+        }
+        Ok(())
     }
 }

@@ -17,11 +17,11 @@ pub enum Subject {
     Other(usize),
 }
 
-impl Subject {
-    // The subject of a call.
-    pub fn of(call: &Call) -> Subject
-        ensures { result ≡ subject_of call.now }
-    {
+// The subject of a call.
+impl From<&Call> for Subject {
+    ghost from_gives = { λ call subject. subject ≡ subject_of call.now };
+
+    fn from(call: &Call) -> Subject {
         match call {
             Call::Meter(reading) => Subject::Place(reading.number),
             Call::Deliver(reading) => Subject::Licensee(reading.number),

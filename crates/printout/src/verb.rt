@@ -17,11 +17,11 @@ pub enum Verb {
     Hold,
 }
 
-impl Verb {
-    // The verb of a call.
-    pub fn of(call: &Call) -> Verb
-        ensures { result ≡ verb_of call.now }
-    {
+// The verb of a call.
+impl From<&Call> for Verb {
+    ghost from_gives = { λ call verb. verb ≡ verb_of call.now };
+
+    fn from(call: &Call) -> Verb {
         match call {
             Call::Year(_) => Verb::Year,
             Call::Tariff(_) => Verb::Tariff,
@@ -33,7 +33,9 @@ impl Verb {
             Call::Present(Spending::Hold, _) => Verb::Hold,
         }
     }
+}
 
+impl Verb {
     // Its word.
     fn word(self) -> &'static str
         ensures { result.now ≡ word self }

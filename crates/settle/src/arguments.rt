@@ -11,18 +11,17 @@ pub enum Command<'a> {
     Run(&'a str),
     Check(&'a str),
     Help,
-    // The words are no command.
-    Unknown,
 }
 
-pub fn asked<'a>(words: &'a [String]) -> Command<'a> {
+// None where the words are no command.
+pub fn asked<'a>(words: &'a [String]) -> Option<Command<'a>> {
     let [verb, paths @ ..] = words else {
-        return Command::Help;
+        return Some(Command::Help);
     };
     match (verb.as_str(), paths) {
-        ("run", [path]) => Command::Run(path.as_str()),
-        ("check", [path]) => Command::Check(path.as_str()),
-        ("help", []) => Command::Help,
-        _ => Command::Unknown,
+        ("run", [path]) => Some(Command::Run(path.as_str())),
+        ("check", [path]) => Some(Command::Check(path.as_str())),
+        ("help", []) => Some(Command::Help),
+        _ => None,
     }
 }

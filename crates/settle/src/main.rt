@@ -35,13 +35,13 @@ fn start(rt: &HostRuntime) -> Result<(), Failure> {
     let _ = args.next();
     let words: Vec<String> = args.collect(rt.alloc())?;
     match asked(words.as_slice()) {
-        Command::Run(path) => run(rt, path),
-        Command::Check(path) => check(rt, path),
-        Command::Help => {
+        Some(Command::Run(path)) => run(rt, path),
+        Some(Command::Check(path)) => check(rt, path),
+        Some(Command::Help) => {
             print!(rt; "{USAGE}")?;
             Ok(())
         }
-        Command::Unknown => {
+        None => {
             eprint!(rt; "{USAGE}")?;
             Err(Failure::Told)
         }

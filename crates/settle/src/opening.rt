@@ -21,13 +21,6 @@ pub struct List {
     pub entries: Vec<Option<RefusedFile>>,
 }
 
-// What one entry came to.
-#[derive(Clone, Copy)]
-enum Opened {
-    Call(Call),
-    Refused(RefusedFile),
-}
-
 // Opens every entry, or says of the first meter file that cannot be opened why not.
 pub fn open_all(
     rt: &HostRuntime,
@@ -40,29 +33,34 @@ pub fn open_all(
     };
     for entry in entries {
         match open(rt, source, entry)? {
-            Opened::Call(call) => {
+            Ok(call) => {
                 list.calls.push(call)?;
                 list.entries.push(None)?;
             }
-            Opened::Refused(file) => list.entries.push(Some(file))?,
+            Err(file) => list.entries.push(Some(file))?,
         }
     }
     Ok(list)
 }
 
-fn open(rt: &HostRuntime, source: Source<'_>, entry: &Entry<'_>) -> Result<Opened, Failure> {
+// The call of an entry, or its meter file's refusal. A failure is another matter: the file cannot be opened.
+fn open(
+    rt: &HostRuntime,
+    source: Source<'_>,
+    entry: &Entry<'_>,
+) -> Result<Result<Call, RefusedFile>, Failure> {
     let line = entry.line;
     let call = match entry.request {
         Request::Year(revenues) => Call::Year(revenues),
         Request::Tariff(filing) => Call::Tariff(filing),
-        Request::Meter(name) => match read_meter(rt, source, line, name)? {
-            Ok(reading) => Call::Meter(reading),
-            Err(refusal) => return Ok(refused(Verb::Meter, refusal)),
-        },
-        Request::Deliver(name) => match read_meter(rt, source, line, name)? {
-            Ok(reading) => Call::Deliver(reading),
-            Err(refusal) => return Ok(refused(Verb::Deliver, refusal)),
-        },
+        Request::Meter(name) => {
+            let bytes = source.read_beside(rt, line, name)?;
+            return Ok(reading_of(&bytes, Verb::Meter).map(Call::Meter));
+        }
+        Request::Deliver(name) => {
+            let bytes = source.read_beside(rt, line, name)?;
+            return Ok(reading_of(&bytes, Verb::Deliver).map(Call::Deliver));
+        }
         Request::Close {
             readings,
             deliveries,
@@ -74,24 +72,14 @@ fn open(rt: &HostRuntime, source: Source<'_>, entry: &Entry<'_>) -> Result<Opene
         Request::Release(order) => Call::Present(Spending::Release, Named::Drawn(order)),
         Request::Hold(order) => Call::Present(Spending::Hold, Named::Drawn(order)),
     };
-    Ok(Opened::Call(call))
+    Ok(Ok(call))
 }
 
-fn refused(verb: Verb, refusal: Refusal) -> Opened {
-    Opened::Refused(RefusedFile { verb, refusal })
-}
-
-// The reading of a meter file that a line names, or the file's refusal.
-fn read_meter(
-    rt: &HostRuntime,
-    source: Source<'_>,
-    line: usize,
-    name: &[u8],
-) -> Result<Result<Reading, Refusal>, Failure> {
-    let bytes = source.read_beside(rt, line, name)?;
+// The reading of a meter file, or the file's refusal.
+fn reading_of(bytes: &[u8], verb: Verb) -> Result<Reading, RefusedFile> {
     let mut reading = Reading::empty();
-    match read_file(bytes.as_slice(), &mut reading) {
-        Ok(()) => Ok(Ok(reading)),
-        Err(refusal) => Ok(Err(refusal)),
+    match read_file(bytes, &mut reading) {
+        Ok(()) => Ok(reading),
+        Err(refusal) => Err(RefusedFile { verb, refusal }),
     }
 }

@@ -1,12 +1,11 @@
 // The text of a sheet.
 #![tactic(auto)]
 
-mod digits;
 mod lines;
-mod page;
+pub mod text;
 pub mod write;
 
-pub use page::TEXT_LIMIT;
+pub use text::{TEXT_LIMIT, text_of};
 pub use write::write_sheet;
 
 #[cfg(test)]

@@ -1,116 +1,114 @@
-// The lines of a sheet, one behind another on a page.
-ghost use Rattle.std.specs.Prelude.{◌≡◌, ◌+◌, ◌*◌, ◌≤◌, length};
-ghost use Rattle.methodology.specs.Limits.{head_limit};
+// The lines of a sheet, each in fixed memory that has room for the longest of its kind.
+ghost use Rattle.std.specs.Prelude.{◌≡◌, ◌+◌, ◌≤◌, ◌++◌, codes, length};
 ghost use Rattle.methodology.specs.Names.{name};
-ghost use Rattle.methodology.specs.Heads.{heads_of};
-ghost use Rattle.accounts.specs.Limits.{licensee_limit};
-ghost use Rattle.sheet.specs.Limits.{text_limit, name_limit, month_limit, line_limit, bill_limit, margin_limit};
-ghost use Rattle.sheet.specs.Text.{month_line, head_line, licensee_line, margin_line, lines, head_text, licensee_text, sheet_text};
-ghost use Rattle.sheet.specs.Pages.{written, Adds};
+ghost use Rattle.arrayvec.specs.ArrayString.{array_string_len};
+ghost use Rattle.sheet.specs.Limits.{name_limit};
+ghost use Rattle.sheet.specs.Text.{month_line, head_line, licensee_line, margin_line};
 
-use crate::page::Page;
-use accounts::{Billed, HeadLine, LICENSEES, Sheet};
+use accounts::{Billed, HeadLine};
+use arrayvec::ArrayString;
+use itoa::{Buffer, Integer};
 use methodology::Head;
 
-// Writes the line of the month.
-fn put_month(page: &mut Page, month: u8)
-    requires { page.old.len + month_limit ≤ text_limit }
-    ensures text { Adds (month_line month) page.old page.new }
-    ensures len { page.new.len ≤ page.old.len + month_limit }
+// Most digits of a number of 64 bits.
+const DIGITS: usize = 20;
+
+// Most bytes of a number behind a blank, and of one with a sign.
+const FIGURE: usize = 1 + DIGITS;
+
+const SIGNED_FIGURE: usize = 1 + FIGURE;
+
+// Most bytes of each line: the word that it begins with, its figures, the line feed.
+pub const MONTH_LINE: usize = 5 + FIGURE + 1;
+
+pub const HEAD_LINE: usize = 1 + DIGITS + 3 * FIGURE + SIGNED_FIGURE + 1;
+
+pub const LICENSEE_LINE: usize = 8 + 3 * FIGURE + 1;
+
+pub const MARGIN_LINE: usize = 6 + SIGNED_FIGURE + 1;
+
+// Writes a number behind a blank.
+fn push_figure<const CAP: usize, I: Integer>(line: &mut ArrayString<CAP>, n: I)
+    requires { array_string_len line.old + 1 + I.MAX_STR_LEN ≤ CAP }
+    ensures text { line.new.bytes ≡ line.old.bytes ++ (codes " " ++ I.text n) }
+    ensures len { array_string_len line.new ≤ array_string_len line.old + 1 + I.MAX_STR_LEN }
 {
-    page.put(b"month");
-    page.put_figure(month as u64);
-    page.end_line();
+    let mut digits = Buffer::new();
+    line.push_str(" ");
+    line.push_str(digits.format(n));
 }
 
-// Writes the name of a head.
-fn put_name(page: &mut Page, head: Head)
-    requires { page.old.len + name_limit ≤ text_limit }
-    ensures text { Adds (name head) page.old page.new }
-    ensures len { page.new.len ≤ page.old.len + name_limit }
+// The line of the month.
+#[tactic(auto, unfolding(crate::specs::Text::month_line))]
+pub fn month_line(month: u8) -> ArrayString<MONTH_LINE>
+    ensures { result.bytes ≡ month_line month }
+{
+    let mut line = ArrayString::new();
+    line.push_str("month");
+    push_figure(&mut line, month);
+    line.push_str("\n");
+    line
+}
+
+// Writes the name of a head, as its `Display` does. A `write!` of it has a contract for `Ok` alone, and none that says when
+// it is `Ok`; a sheet's text is always written.
+fn push_name(line: &mut ArrayString<HEAD_LINE>, head: Head)
+    requires { line.old.bytes ≡ codes "" }
+    ensures text { line.new.bytes ≡ name head }
+    ensures len { array_string_len line.new ≤ name_limit }
 {
     match head {
-        Head::Generation => page.put(b"G"),
-        Head::Revenue(1) => page.put(b"T"),
-        Head::Revenue(2) => page.put(b"B"),
-        Head::Revenue(_) => page.put(b"S"),
+        Head::Generation => line.push_str("G"),
+        Head::Revenue(1) => line.push_str("T"),
+        Head::Revenue(2) => line.push_str("B"),
+        Head::Revenue(_) => line.push_str("S"),
         Head::Interval(i) => {
-            page.put(b"E");
-            page.put_number(i as u64);
+            line.push_str("E");
+            let mut digits = Buffer::new();
+            line.push_str(digits.format(i));
         }
     }
 }
 
-// Writes the line of a head.
-fn put_head(page: &mut Page, head: Head, line: &HeadLine)
-    requires { page.old.len + line_limit ≤ text_limit }
-    ensures text { Adds (head_line head line.now) page.old page.new }
-    ensures len { page.new.len ≤ page.old.len + line_limit }
+// The line of a head.
+#[tactic(auto, unfolding(crate::specs::Text::head_line))]
+pub fn head_line(head: Head, line: &HeadLine) -> ArrayString<HEAD_LINE>
+    ensures { result.bytes ≡ head_line head line.now }
 {
-    put_name(page, head);
-    page.put_figure(line.actual);
-    page.put_figure(line.published);
-    page.put_signed_figure(line.balance);
-    page.put_figure(line.carry);
-    page.end_line();
+    let mut text = ArrayString::new();
+    push_name(&mut text, head);
+    push_figure(&mut text, line.actual);
+    push_figure(&mut text, line.published);
+    push_figure(&mut text, line.balance);
+    push_figure(&mut text, line.carry);
+    text.push_str("\n");
+    text
 }
 
-// Writes the lines of the heads.
-fn put_heads(page: &mut Page, sheet: &Sheet)
-    requires { page.old.len + head_limit * line_limit ≤ text_limit }
-    ensures text { Adds (lines (head_text sheet.now) (heads_of sheet.now.shape)) page.old page.new }
-    ensures len { page.new.len ≤ page.old.len + head_limit * line_limit }
+// The line of a licensee, or nothing where it has none.
+#[tactic(auto, unfolding(crate::specs::Text::licensee_line))]
+pub fn licensee_line(number: usize, billed: &Option<Billed>) -> ArrayString<LICENSEE_LINE>
+    ensures { result.bytes ≡ licensee_line number billed.now }
 {
-    for k in 0..sheet.shape.heads() {
-        put_head(page, sheet.shape.head(k + 1), &sheet.heads[k]);
+    let mut line = ArrayString::new();
+    if let Some(billed) = billed {
+        line.push_str("licensee");
+        push_figure(&mut line, number);
+        push_figure(&mut line, billed.bill);
+        push_figure(&mut line, billed.fraction);
+        line.push_str("\n");
     }
+    line
 }
 
-// Writes the line of a licensee, if it has one.
-fn put_licensee(page: &mut Page, number: usize, billed: &Option<Billed>)
-    requires { page.old.len + bill_limit ≤ text_limit }
-    ensures text { Adds (licensee_line number billed.now) page.old page.new }
-    ensures len { page.new.len ≤ page.old.len + bill_limit }
+// The line of the margin.
+#[tactic(auto, unfolding(crate::specs::Text::margin_line))]
+pub fn margin_line(margin: i64) -> ArrayString<MARGIN_LINE>
+    ensures { result.bytes ≡ margin_line margin }
 {
-    if let Some(line) = billed {
-        page.put(b"licensee");
-        page.put_figure(number as u64);
-        page.put_figure(line.bill);
-        page.put_figure(line.fraction);
-        page.end_line();
-    }
-}
-
-// Writes the lines of the licensees that have one.
-fn put_licensees(page: &mut Page, sheet: &Sheet)
-    requires { page.old.len + licensee_limit * bill_limit ≤ text_limit }
-    ensures text { Adds (lines (licensee_text sheet.now) licensee_limit) page.old page.new }
-    ensures len { page.new.len ≤ page.old.len + licensee_limit * bill_limit }
-{
-    for k in 0..LICENSEES {
-        put_licensee(page, k + 1, &sheet.licensees[k]);
-    }
-}
-
-// Writes the line of the margin.
-fn put_margin(page: &mut Page, margin: i64)
-    requires { page.old.len + margin_limit ≤ text_limit }
-    ensures { Adds (margin_line margin) page.old page.new }
-{
-    page.put(b"margin");
-    page.put_signed_figure(margin);
-    page.end_line();
-}
-
-// A page with a sheet's text: the longest one finds room.
-pub fn page_of(sheet: &Sheet) -> Page
-    ensures text { written result ≡ sheet_text sheet.now }
-    ensures longest { length (sheet_text sheet.now) ≤ text_limit }
-{
-    let mut page = Page::empty();
-    put_month(&mut page, sheet.month);
-    put_heads(&mut page, sheet);
-    put_licensees(&mut page, sheet);
-    put_margin(&mut page, sheet.margin);
-    page
+    let mut line = ArrayString::new();
+    line.push_str("margin");
+    push_figure(&mut line, margin);
+    line.push_str("\n");
+    line
 }

@@ -4,7 +4,7 @@ ghost use Rattle.sheet.specs.Limits.{text_limit};
 ghost use Rattle.sheet.specs.Text.{sheet_text};
 ghost use Rattle.sheet.specs.Calls.{Writes};
 
-use crate::lines::page_of;
+use crate::text::text_of;
 use accounts::Sheet;
 use metering::Refusal;
 
@@ -15,12 +15,11 @@ pub fn write_sheet(sheet: &Sheet, buffer: &mut [u8]) -> Result<usize, Refusal>
     ensures fits { IfOk result (λ n. n ≤ length buffer.old) }
     ensures longest { length (sheet_text sheet.now) ≤ text_limit }
 {
-    let page = page_of(sheet);
-    let text = page.text();
+    let text = text_of(sheet);
     let size = text.len();
     if buffer.len() < size {
         return Err(Refusal::Buffer);
     }
-    buffer[..size].copy_from_slice(text);
+    buffer[..size].copy_from_slice(text.as_str().as_bytes());
     Ok(size)
 }

@@ -5,6 +5,7 @@ pub mod account;
 pub mod money;
 pub mod stated;
 pub mod tally;
+mod total;
 
 pub use account::Account;
 pub use money::PlaceMoney;

@@ -4,6 +4,7 @@ use crate::money::PlaceMoney;
 use accounts::PLACES;
 
 pub mod making;
+mod sources;
 
 // The account, and the money of each place, place 1 first.
 #[derive(Clone, Copy)]

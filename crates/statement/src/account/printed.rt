@@ -11,6 +11,7 @@ impl Account {
     pub fn covered(&self) -> i128
         ensures { result ≡ covered_by self.now }
     {
+        // By the type's own bound the sum is below 2^120, so the cast leaves it as it is.
         (self.bills + self.fractions + self.carries) as i128 + self.balances + self.margins
     }
 
@@ -21,6 +22,8 @@ impl Account {
         self.dues + self.revenues
     }
 }
+
+// The ten numbers of an account are written by three small types: one `write!` of them all passes the limits of the search.
 
 // `bills 618 fractions 7630`: what the licensees owe or were billed.
 #[derive(Clone, Copy)]

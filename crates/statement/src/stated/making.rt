@@ -1,5 +1,5 @@
 // Making the statement of a list of calls that was performed.
-ghost use Rattle.std.specs.Prelude.{◌≡◌, ℕ, ◌-◌, ◌*◌, ◌^◌, ◌<◌, ◌≤◌, List, length, None, Option, IfSome, slice_index_or, unsigned_abs};
+ghost use Rattle.std.specs.Prelude.{◌≡◌, ℕ, ◌+◌, ◌-◌, ◌*◌, ◌^◌, ◌<◌, ◌≤◌, List, length, None, Option, IfSome, slice_index_or, unsigned_abs};
 ghost use Rattle.agreements.specs.Meaning.{Meaning};
 ghost use Rattle.methodology.specs.Meaning.{Meaning as Market};
 ghost use Rattle.methodology.specs.Limits.{head_limit};
@@ -15,12 +15,14 @@ ghost use Rattle.statement.specs.Statements.{no_money, Stated};
 use crate::account::Account;
 use crate::money::PlaceMoney;
 use crate::stated::Statement;
+use crate::stated::sources::Sources;
 use crate::tally::Tally;
-use accounts::{Books, LICENSEES, PLACES};
+use crate::total::total;
+use accounts::{Books, PLACES};
 use banks::Bank;
 use history::{Call, Performance};
 use methodology::Methodology;
-use orders::Till;
+use std::array;
 
 // Grains in a cent.
 const CENT: u128 = 10_000;
@@ -33,11 +35,7 @@ fn fractions_in(books: &Books) -> u128
     ensures value { result ≡ fractions_in books.now }
     ensures bound { result ≤ 2 ^ 67 }
 {
-    let mut sum = 0;
-    for l in 0..LICENSEES {
-        sum += u128::from(books.fractions[l]);
-    }
-    sum
+    total(&books.fractions, |fraction| *fraction)
 }
 
 // The balances of the first so many heads together.
@@ -46,9 +44,10 @@ fn balances_in(books: &Books, heads: usize) -> i128
     ensures value { result ≡ balances_in heads books.now }
     ensures bound { unsigned_abs result ≤ 2 ^ 67 }
 {
+    // No chain: for a `sum` of signed numbers the check has no bound.
     let mut sum = 0;
-    for k in 0..heads {
-        sum += i128::from(books.accounts[k].balance);
+    for account in &books.accounts[..heads] {
+        sum += i128::from(account.balance);
     }
     sum
 }
@@ -59,63 +58,49 @@ fn carries_in(books: &Books, heads: usize) -> u128
     ensures value { result ≡ carries_in heads books.now }
     ensures bound { result ≤ 2 ^ 67 }
 {
-    let mut sum = 0;
-    for k in 0..heads {
-        sum += u128::from(books.accounts[k].carry);
-    }
-    sum
+    total(&books.accounts[..heads], |account| account.carry)
 }
 
-// The account by the sums over the answers and what the books hold.
-fn account_of(tally: &Tally, books: &Books, heads: usize) -> Account
-    requires few { heads ≤ head_limit }
-    requires small { Within (call_limit * turn) tally.now }
-    ensures { Sums tally.now books.now heads result }
-{
-    Account {
-        bills: CENT * tally.bills,
-        fractions: fractions_in(books),
-        balances: balances_in(books, heads),
-        carries: carries_in(books, heads),
-        margins: tally.margins,
-        dues: tally.dues,
-        revenues: CENT * tally.shares,
+impl Sources<'_> {
+    // The account over the closed months.
+    fn account(&self) -> Account
+        ensures { Sums self.now.tally.now self.now.ledger.now.books self.now.heads result }
+    {
+        let tally = self.tally;
+        let books = &self.ledger.books;
+        Account {
+            bills: CENT * tally.bills,
+            fractions: fractions_in(books),
+            balances: balances_in(books, self.heads),
+            carries: carries_in(books, self.heads),
+            margins: tally.margins,
+            dues: tally.dues,
+            revenues: CENT * tally.shares,
+        }
     }
-}
 
-// The money of a place by the sums and what the till holds.
-fn money_of(tally: &Tally, till: &Till, place: u8) -> PlaceMoney
-    requires low { 1 ≤ place }
-    requires high { place ≤ place_limit }
-    requires small { Within (call_limit * turn) tally.now }
-    ensures { Holds tally.now till.now place result }
-{
-    let money = till.money(place);
-    let k = place as usize - 1;
-    PlaceMoney {
-        released: CENT * tally.released[k],
-        in_hand: CENT * u128::from(money.on_orders),
-        standing: u128::from(money.standing),
-        terms: tally.given[k],
+    // The money of the place that comes behind so many.
+    fn money(&self, before: usize) -> PlaceMoney
+        requires { before < place_limit }
+        ensures { Holds self.now.tally.now self.now.ledger.now.till (before + 1) result }
+    {
+        let tally = self.tally;
+        // There are 32 places, so the cast leaves the number as it is.
+        let money = self.ledger.till.money(before as u8 + 1);
+        PlaceMoney {
+            released: CENT * tally.released[before],
+            in_hand: CENT * u128::from(money.on_orders),
+            standing: u128::from(money.standing),
+            terms: tally.given[before],
+        }
     }
-}
 
-// The same of every place.
-fn places_of(tally: &Tally, till: &Till) -> [PlaceMoney; PLACES]
-    requires { Within (call_limit * turn) tally.now }
-    ensures { (p : ℕ) → 1 ≤ p → p ≤ place_limit → Holds tally.now till.now p (slice_index_or result (p - 1) no_money) }
-{
-    let none = PlaceMoney {
-        released: 0,
-        in_hand: 0,
-        standing: 0,
-        terms: 0,
-    };
-    let mut places = [none; PLACES];
-    for k in 0..PLACES {
-        places[k] = money_of(tally, till, k as u8 + 1);
+    // The money of every place, place 1 first.
+    fn places(&self) -> [PlaceMoney; PLACES]
+        ensures { (k : ℕ) → k < place_limit → Holds self.now.tally.now self.now.ledger.now.till (k + 1) (slice_index_or result k no_money) }
+    {
+        array::from_fn(|before| self.money(before))
     }
-    places
 }
 
 // The statement of a list of calls that was performed; none where the list is not the one that was performed, or has over
@@ -132,10 +117,14 @@ pub fn statement<B: Bank, M: Methodology>(
         return None;
     }
     let shape = M::shape();
-    let tally = Tally::of(shape.revenues, calls, answers);
-    let ledger = performed.house.ledger();
+    let tally = Tally::of(shape, calls, answers);
+    let sources = Sources {
+        tally: &tally,
+        ledger: performed.house.ledger(),
+        heads: shape.heads(),
+    };
     Some(Statement {
-        account: account_of(&tally, &ledger.books, shape.heads()),
-        places: places_of(&tally, &ledger.till),
+        account: sources.account(),
+        places: sources.places(),
     })
 }

@@ -1,10 +1,7 @@
-use Rattle.std.proofs.Common.{sym, arith}
-use Rattle.accounts.specs.Books.{fraction_at}
-use Rattle.accounts.proofs.Sums.{sum_none, sum_next}
+use Rattle.std.proofs.Common.{◌∙◌, rules}
+use Rattle.statement.proofs.Summing.{sum_by_all}
 use Rattle.statement.proofs.stated.making.fractions_in.Goals as goal
 
-pub loop-l-init : goal.loop-l-init
-loop-l-init c = (sym (sum_none (fraction_at c.args.books.now)), omega arith)
-
-pub loop-l-preserved : goal.loop-l-preserved
-loop-l-preserved c = let next = sum_next (fraction_at c.args.books.now) c.loop-l.l in (omega arith, omega arith)
+pub returns-clause-value : goal.returns-clause-value
+returns-clause-value c =
+    c.total.ensures.value (λ n. n) (λ x n called. search rules) ∙ sum_by_all (λ n. n) 0 c.args.books.now.fractions 8 c.args.books.now.full

@@ -1,5 +1,6 @@
-use Rattle.std.proofs.Common.{◌≡◌, ℕ, ◌+◌, ◌*◌, sym, ap, ◌∙◌, subst, arith, lit≤}
+use Rattle.std.proofs.Common.{◌≡◌, ℕ, ◌+◌, ◌*◌, [], ◌∷◌, ◌++◌, length, length-append, rules, sym, ap, ◌∙◌, subst, arith, lit≤}
 use Rattle.std.proofs.lemmas.List.{get_or-replicate}
+use Rattle.std.proofs.lemmas.Slice.Zip.{zip_turn}
 use Rattle.orders.specs.Limits.{place_limit}
 use Rattle.statement.specs.Tallies.{nothing, taken}
 use Rattle.statement.specs.Bounds.{turn, Within}
@@ -17,17 +18,26 @@ none_within =
       released = λ k h. omega (arith, get_or-replicate {A = ℕ} place_limit k 0 0 h);
     }
 
-pub loop-k-init : goal.loop-k-init
-loop-k-init c = (
-  c.nothing-tally.ensures ∙ sym (tallied_none c.args.revenues c.args.calls.now c.args.answers.now nothing),
+pub loop-call-init : goal.loop-call-init
+loop-call-init c = (
+  (tt, tt),
+  tt,
+  c.nothing-tally.ensures ∙ sym (tallied_none c.args.shape.revenues c.args.calls.now c.args.answers.now nothing),
   subst (Within 0) (sym c.nothing-tally.ensures) none_within,
 )
 
-pub loop-k-preserved : goal.loop-k-preserved
-loop-k-preserved c =
-    let k = c.loop-k.k in
-    let more : k * turn + turn ≡ (k + 1) * turn = omega arith in (
-      c.take.ensures.value ∙ ap (taken c.args.revenues c.index-calls-k.result c.index-answers-k.result) c.loop-k.invariant.0
-          ∙ sym (tallied_next c.args.revenues c.args.calls.now c.args.answers.now k c.index-calls-k.result c.index-answers-k.result nothing c.loop-k-test.true c.requires.same c.index-calls-k.is c.index-answers-k.is),
-      subst (λ n. Within n c.take.new.self) more (c.take.ensures.within (k * turn) c.loop-k.invariant.1),
+pub loop-call-preserved : goal.loop-call-preserved
+loop-call-preserved c =
+    let k = length c.loop-call.yielded in
+    let first : c.into_iter-call-iterator.result.a.rest.now ≡ c.args.calls.now = search rules in
+    let second : c.into_iter-call-iterator.result.b.rest.now ≡ c.args.answers.now = search rules in
+    let turn_at = zip_turn c.args.calls.now c.args.answers.now c.loop-call.yielded c.into_iter-call-iterator.result c.loop-call.call-iterator c.next.new.self c.next.result first second c.loop-call.yielded_by (c.in-Some.call, c.in-Some.answer) c.in-Some.is c.next.ensures.steps in
+    let longer : length (c.loop-call.yielded ++ (c.in-Some.call, c.in-Some.answer) ∷ []) ≡ k + 1 = length-append c.loop-call.yielded ((c.in-Some.call, c.in-Some.answer) ∷ []) in
+    let more : k * turn + turn ≡ (k + 1) * turn = omega arith in
+    rw longer (
+      (tt, tt),
+      tt,
+      c.take.ensures.value ∙ ap (taken c.args.shape.revenues c.in-Some.call.now c.in-Some.answer.now) c.loop-call.invariant.2
+          ∙ sym (tallied_next c.args.shape.revenues c.args.calls.now c.args.answers.now k c.in-Some.call.now c.in-Some.answer.now nothing turn_at.0 c.requires.same (turn_at.2 c.in-Some.call.now) (turn_at.3 c.in-Some.answer.now)),
+      subst (λ n. Within n c.take.new.self) more (c.take.ensures.within (k * turn) c.loop-call.invariant.3),
     )

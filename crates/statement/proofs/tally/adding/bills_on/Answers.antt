@@ -1,13 +1,8 @@
-use Rattle.std.proofs.Common.{sym, arith}
-use Rattle.accounts.specs.Sheets.{billed_at}
-use Rattle.accounts.proofs.Sums.{sum_none, sum_next}
+use Rattle.std.proofs.Common.{◌∙◌, None, rules}
 use Rattle.settlement.specs.Law.{bill_of}
+use Rattle.statement.proofs.Summing.{sum_by_all}
 use Rattle.statement.proofs.tally.adding.bills_on.Goals as goal
 
-pub loop-l-init : goal.loop-l-init
-loop-l-init c = (sym (sum_none (λ i. bill_of (billed_at c.args.sheet.now i))), omega arith)
-
-pub loop-l-preserved : goal.loop-l-preserved
-loop-l-preserved c =
-    let next = sum_next (λ i. bill_of (billed_at c.args.sheet.now i)) c.loop-l.l in
-    (omega arith, omega arith)
+pub returns-clause-value : goal.returns-clause-value
+returns-clause-value c =
+    c.total.ensures.value bill_of (λ x n called. search rules) ∙ sum_by_all bill_of None c.args.sheet.now.licensees 8 (search rules)

@@ -1,12 +1,9 @@
-use Rattle.std.proofs.Common.{get_or, sym, arith}
+use Rattle.std.proofs.Common.{◌∙◌, rules, arith}
 use Rattle.arith.specs.Months.{share}
-use Rattle.accounts.proofs.Sums.{sum_none, sum_next}
+use Rattle.statement.proofs.Summing.{sum_by_first}
 use Rattle.statement.proofs.tally.adding.shares_of.Goals as goal
 
-pub loop-j-init : goal.loop-j-init
-loop-j-init c = (sym (sum_none (λ i. share (get_or c.args.yearly.now i 0) c.args.month)), omega arith)
-
-pub loop-j-preserved : goal.loop-j-preserved
-loop-j-preserved c =
-    let next = sum_next (λ i. share (get_or c.args.yearly.now i 0) c.args.month) c.loop-j.j in
-    (omega arith, omega arith)
+pub returns-clause-value : goal.returns-clause-value
+returns-clause-value c =
+    c.total.ensures.value (λ y. share y c.args.month) (λ x n called. search rules)
+    ∙ sum_by_first (λ y. share y c.args.month) 0 c.args.yearly.now c.args.shape.revenues (omega (arith, c.args.shape.most, c.told-yearly))
