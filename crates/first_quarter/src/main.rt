@@ -13,9 +13,7 @@ use history::{Answer, Call, Performance, Unperformed, perform, perform_alone};
 use house::House;
 use methodology::ThreeIntervals;
 use printout::Printer;
-use sheet::{TEXT_LIMIT, write_sheet};
 use std::alloc::Global;
-use std::io::Write;
 use worked_figures::agreement;
 
 // The numbers that the pay orders of the two houses bear.
@@ -27,26 +25,6 @@ type Quarter = House<Stations, ThreeIntervals>;
 
 // Another house, with an order that it drew in hand.
 type Other = Performance<One<TwoPart>, ThreeIntervals>;
-
-// Prints a call's line, and under an accepted closing the sheet.
-fn print_call(
-    rt: &HostRuntime,
-    printer: &mut Printer,
-    call: &Call,
-    answer: &Answer,
-) -> anyhow::Result<()> {
-    let line = printer.line(call, answer);
-    println!(rt; "{line}")?;
-    let Answer::Closed(sheet) = answer else {
-        return Ok(());
-    };
-    let mut buffer = [0; TEXT_LIMIT];
-    let Ok(size) = write_sheet(sheet, &mut buffer) else {
-        return Err(anyhow!("the text is longer than the longest"));
-    };
-    rt.stdout().write_all(&buffer[..size])?;
-    Ok(())
-}
 
 // Prints what stands at each place, grains.
 fn print_places(rt: &HostRuntime, house: &Quarter, places: u8) -> anyhow::Result<()> {
@@ -85,7 +63,7 @@ fn run(rt: &HostRuntime) -> anyhow::Result<()> {
     };
     let mut printer = Printer::new();
     for (call, answer) in calls.iter().zip(answers.iter()) {
-        print_call(rt, &mut printer, call, answer)?;
+        printer.print(rt, call, answer)?;
     }
     print_places(rt, &house, places)
 }

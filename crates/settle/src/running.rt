@@ -3,26 +3,9 @@ use crate::failure::Failure;
 use crate::opening::List;
 use crate::printing::{print_books, print_lines};
 use banks::Bank;
-use history::{Orders, Performance, Unperformed, perform};
+use history::{Performance, perform_alone};
 use methodology::Methodology;
 use stations::Stations;
-use std::alloc::{AllocError, Global};
-
-// Performs the calls of a house over the stations; no order of another house is presented.
-fn perform_calls<M: Methodology + Drop>(
-    heap: Global,
-    market: M,
-    stations: Stations,
-    serial: u64,
-    list: &List,
-) -> Result<Performance<Stations, M>, Unperformed> {
-    let mut none = Orders::with_room(heap, 0)?;
-    let outcome = perform(heap, stations, market, serial, &list.calls, &mut none);
-    match none.end() {
-        Ok(()) => outcome,
-        Err(_) => unreachable!(),
-    }
-}
 
 // Prints the lines and then the books.
 fn print_all<M: Methodology>(
@@ -44,9 +27,7 @@ pub fn perform_list<M: Methodology + Drop>(
     list: &List,
 ) -> Result<(), Failure> {
     let places = stations.places();
-    let Ok(performance) = perform_calls(rt.alloc(), market, stations, serial, list) else {
-        return Err(Failure::from(AllocError));
-    };
+    let performance = perform_alone(rt.alloc(), stations, market, serial, &list.calls)?;
     let printed = print_all(rt, list, &performance, places);
     let (_house, _answers) = performance.hold_all();
     printed
