@@ -63,9 +63,10 @@ impl<L: Bank, R: Bank> Bank for Beside<L, R> {
 
     fn ask_at(&self, place: u8, reading: &Reading, table: &mut Dues) -> Result<(), BankRefusal> {
         match self.side(place)? {
-            Side::Left(there) => self.left.ask_at(there, reading, table),
-            Side::Right(there) => self.right.ask_at(there, reading, table),
+            Side::Left(there) => self.left.ask_at(there, reading, table)?,
+            Side::Right(there) => self.right.ask_at(there, reading, table)?,
         }
+        Ok(())
     }
 
     fn book_at(
@@ -75,8 +76,9 @@ impl<L: Bank, R: Bank> Bank for Beside<L, R> {
         table: &mut Dues,
     ) -> Result<(), BankRefusal> {
         match self.side(place)? {
-            Side::Left(there) => self.left.book_at(there, reading, table),
-            Side::Right(there) => self.right.book_at(there, reading, table),
+            Side::Left(there) => self.left.book_at(there, reading, table)?,
+            Side::Right(there) => self.right.book_at(there, reading, table)?,
         }
+        Ok(())
     }
 }

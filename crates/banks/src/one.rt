@@ -44,9 +44,8 @@ impl<A: Agreement> Bank for One<A> {
 
     fn ask_at(&self, place: u8, reading: &Reading, table: &mut Dues) -> Result<(), BankRefusal> {
         only_place(place)?;
-        self.agreement
-            .ask(reading, table)
-            .map_err(BankRefusal::from)
+        self.agreement.ask(reading, table)?;
+        Ok(())
     }
 
     fn book_at(
@@ -56,8 +55,7 @@ impl<A: Agreement> Bank for One<A> {
         table: &mut Dues,
     ) -> Result<(), BankRefusal> {
         only_place(place)?;
-        self.agreement
-            .book(reading, table)
-            .map_err(BankRefusal::from)
+        self.agreement.book(reading, table)?;
+        Ok(())
     }
 }

@@ -43,7 +43,8 @@ impl<B: Bank> Bank for Reversed<B> {
 
     fn ask_at(&self, place: u8, reading: &Reading, table: &mut Dues) -> Result<(), BankRefusal> {
         let there = self.turned(place);
-        self.bank.ask_at(there, reading, table)
+        self.bank.ask_at(there, reading, table)?;
+        Ok(())
     }
 
     fn book_at(
@@ -53,6 +54,7 @@ impl<B: Bank> Bank for Reversed<B> {
         table: &mut Dues,
     ) -> Result<(), BankRefusal> {
         let there = self.turned(place);
-        self.bank.book_at(there, reading, table)
+        self.bank.book_at(there, reading, table)?;
+        Ok(())
     }
 }

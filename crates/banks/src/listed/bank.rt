@@ -32,9 +32,8 @@ impl<T: Agreement> Bank for Listed<T> {
 
     fn ask_at(&self, place: u8, reading: &Reading, table: &mut Dues) -> Result<(), BankRefusal> {
         let index = self.index_of(place)?;
-        self.list[index]
-            .ask(reading, table)
-            .map_err(BankRefusal::from)
+        self.list[index].ask(reading, table)?;
+        Ok(())
     }
 
     fn book_at(
@@ -44,8 +43,7 @@ impl<T: Agreement> Bank for Listed<T> {
         table: &mut Dues,
     ) -> Result<(), BankRefusal> {
         let index = self.index_of(place)?;
-        self.list[index]
-            .book(reading, table)
-            .map_err(BankRefusal::from)
+        self.list[index].book(reading, table)?;
+        Ok(())
     }
 }
