@@ -4,7 +4,6 @@ use Rattle.words.specs.Pieces.{words, bare}
 use Rattle.journal.specs.declared.expected.Expected.{Expected}
 use Rattle.journal.specs.declared.expected.Unreadable.{Unreadable}
 use Rattle.journal.specs.declared.expected.Unreadable.TheVariants.{Lacks, NoMemory}
-use Rattle.journal.specs.Fields.{Words}
 use Rattle.journal.specs.Lines.{Said, Turns, with_words}
 use Rattle.journal.specs.Text.{Account, Fault, Reads, unread_at, read_on, goes_on, finished}
 

@@ -1,7 +1,7 @@
 // The lines of a journal that say what the house is asked to do.
 ghost use Rattle.std.specs.Prelude.{◌≡◌};
 ghost use Rattle.words.specs.Pieces.{left};
-ghost use Rattle.journal.specs.Fields.{Takes};
+ghost use Rattle.journal.specs.Fields.{Takes, single};
 ghost use Rattle.journal.specs.Calls.{Tells, TakesName, TellsName, alone, file_of, filing_of, year_of, tariff_of, close_of, draw_of, request_of};
 
 use crate::expected::Expected;
@@ -133,6 +133,7 @@ pub fn read_request<'a>(
     let Some(verb) = behind.next() else {
         return Err(other);
     };
+    // No `match`: the proof of its last arm did not close, whose bytes give 40 cases.
     if is_word(verb, b"year") {
         year(words, market)
     } else if is_word(verb, b"tariff") {

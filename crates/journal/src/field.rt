@@ -48,6 +48,7 @@ fn run(words: &mut Words, name: Name) -> Result<Row, Expected>
         figures: [0; HEADS],
     };
     let mut ahead = *words;
+    // No `for`: it would take the word that ends the run, which is left to the next field.
     while let Some(word) = ahead.next() {
         if !is_figure(word) {
             return Ok(row);

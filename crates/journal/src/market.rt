@@ -8,7 +8,7 @@ use crate::expected::Expected;
 use crate::field::{ended, keyword, single};
 use crate::name::Name;
 use methodology::{Methodology, ThreeIntervals, TwoIntervals};
-use words::{Words, is_word};
+use words::Words;
 
 #[derive(Clone, Copy)]
 pub enum Market {
@@ -58,12 +58,10 @@ fn which(words: &mut Words) -> Result<Market, Expected>
     let Some(word) = words.next() else {
         return Err(Expected::MarketLine);
     };
-    if is_word(word, b"three") {
-        Ok(Market::Three)
-    } else if is_word(word, b"two") {
-        Ok(Market::Two)
-    } else {
-        Err(Expected::MarketLine)
+    match word {
+        b"three" => Ok(Market::Three),
+        b"two" => Ok(Market::Two),
+        _ => Err(Expected::MarketLine),
     }
 }
 

@@ -1,10 +1,8 @@
 // The names of the fields of a journal's lines.
 ghost use Rattle.std.specs.Prelude.{◌≡◌, Some};
-ghost use Rattle.std.specs.Str.{bytes_eq};
 ghost use Rattle.journal.specs.Names.{name_text};
 
 use std::fmt;
-use words::is_word;
 
 #[derive(Clone, Copy)]
 pub enum Name {
@@ -57,13 +55,6 @@ impl Name {
             Name::Release => "release",
             Name::Hold => "hold",
         }
-    }
-
-    // Whether a word is this one.
-    pub fn is(self, word: &[u8]) -> bool
-        ensures { result ≡ bytes_eq word.now (name_text self) }
-    {
-        is_word(word, self.text().as_bytes())
     }
 }
 

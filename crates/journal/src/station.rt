@@ -10,7 +10,7 @@ use crate::field::single;
 use crate::name::Name;
 use stations::{Figures, Station};
 use std::alloc::Global;
-use words::{Words, is_word};
+use words::Words;
 
 #[tactic(auto, unfolding(crate::specs::Places::two_part_of))]
 fn two_part(words: &mut Words) -> Result<Figures, Expected>
@@ -48,12 +48,10 @@ fn filed(words: &mut Words) -> Result<Figures, Expected>
     let Some(kind) = words.next() else {
         return Err(Expected::Agreement);
     };
-    if is_word(kind, b"two-part") {
-        two_part(words)
-    } else if is_word(kind, b"quota") {
-        quota(words)
-    } else {
-        Err(Expected::Agreement)
+    match kind {
+        b"two-part" => two_part(words),
+        b"quota" => quota(words),
+        _ => Err(Expected::Agreement),
     }
 }
 
@@ -63,6 +61,7 @@ fn layers(heap: Global, mut words: Words) -> Result<Vec<u64>, Unreadable>
 {
     let mut factors = Vec::new(heap);
     let mut ahead = words;
+    // No `for`: it would take the word that begins the layer, which `single` takes.
     while let Some(_) = ahead.next() {
         let factor = single(&mut words, Name::Index)?;
         factors.push(factor)?;

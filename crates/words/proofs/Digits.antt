@@ -1,5 +1,5 @@
 -- The digits of figures.
-use Rattle.std.proofs.Common.{◌≡◌, ℕ, ◌<◌, ◌≤◌, ◌^◌, min, true, false, ltb, List, [], ◌∷◌, length, Ok, Err, Some, Result, ap, sym, ◌∙◌, rules, arith, cond}
+use Rattle.std.proofs.Common.{◌≡◌, ℕ, ◌<◌, ◌^◌, true, ltb, List, [], ◌∷◌, length, Ok, Err, Some, Result, ap, sym, ◌∙◌, rules, arith}
 use native.Mathlib.Nat.{min-eq_left, min-eq_right}
 use Rattle.std.specs.Result.{result_ok, result_unwrap_or}
 use Rattle.std.specs.Str.{IsUtf8, IsAscii}

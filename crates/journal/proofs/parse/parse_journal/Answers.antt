@@ -1,5 +1,5 @@
-use Rattle.std.proofs.Common.{◌≡◌, ℕ, ◌+◌, List, length, Ok, Err, sym, subst, ap, ◌∙◌, arith}
-use Rattle.words.specs.Pieces.{lines, words, bare}
+use Rattle.std.proofs.Common.{◌≡◌, ℕ, length, Ok, Err, sym, subst, ap, ◌∙◌, arith}
+use Rattle.words.specs.Pieces.{lines}
 use Rattle.words.specs.Numbered.{numbered, lines_left}
 use Rattle.words.proofs.Cut.{lines_few, numbered_first, numbered_none}
 use Rattle.journal.specs.Lines.{saying, Turns, with_words}
@@ -34,7 +34,7 @@ loop-line-preserved c =
     let inv = c.loop-line.invariant in
     let n : ℕ = c.loop-line.last in
     let first = numbered_first n inv.2 _ _ _ (sym inv.3 ∙ c.in-Some.ensures.steps) in
-    let turns = subst (λ ws. with_words (saying c.loop-line.draft) c.in-Some.line ws ≡ Ok (saying c.add_line.new.self)) c.of.ensures ? in (
+    let turns = subst (λ ws. with_words (saying c.loop-line.draft) c.in-Some.line ws ≡ Ok (saying c.add_line.new.self)) c.of.ensures c.in_default.ensures in (
       tt,
       tt,
       first.0,

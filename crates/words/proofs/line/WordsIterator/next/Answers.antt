@@ -1,6 +1,5 @@
 use Rattle.std.proofs.Common.{◌≡◌, ◌∷◌, [], rules, length, sym, ap, ◌∙◌, arith}
 use Rattle.words.specs.Pieces.{left, words, behind_word}
-use Rattle.words.specs.declared.line.Words.{Words}
 use Rattle.words.proofs.Parted.{words_none, words_cut}
 use Rattle.words.proofs.line.WordsIterator.next.Goals as goal
 
