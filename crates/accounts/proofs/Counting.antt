@@ -1,9 +1,7 @@
 -- Flags and filled places, counted.
-use Rattle.std.proofs.Common.{◌≡◌, ℕ, zero, suc, ◌+◌, ◌-◌, ◌<◌, ◌≤◌, Bool, true, false, cond, ◌&&◌, leb, ◌⊎◌, List, length, get_or, set, replicate, is_some, Some, None, count_by, Option, sym, refl, ap, ◌∙◌, inl, inr, arith}
-use Rattle.std.proofs.lemmas.List.{get_or_past}
+use Rattle.std.proofs.Common.{◌≡◌, ℕ, zero, suc, ◌+◌, ◌<◌, ◌≤◌, Bool, true, false, cond, List, length, get_or, set, replicate, is_some, Some, None, count_by, Option, refl, arith}
 use Rattle.std.proofs.lemmas.List.Sums.{sum_by-set, count_by-le-length}
-use Rattle.std.proofs.lemmas.Bool.{cond-true, cond-false, and_left, and_right}
-use Rattle.std.proofs.lemmas.Bool.Decides.{nat_tests}
+use Rattle.std.proofs.lemmas.Bool.{cond-true, cond-false}
 use Rattle.accounts.specs.Counts.{count_true, count_some}
 
 -- one place more passes the test
@@ -33,9 +31,3 @@ pub all_alike : {A : Type 0} (a : A) (n k : ℕ) → get_or (replicate n a) k a 
 all_alike a zero k = refl
 all_alike a (suc n) zero = refl
 all_alike a (suc n) (suc k) = all_alike a n k
-
--- what counts from 1 is found at no other number
-pub found_nowhere : {A : Type 0} (p : A → Bool) (d : A) (xs : List A) (n : ℕ) → p d ≡ false → ((1 ≤ n) × (length xs < n)) ⊎ (n < 1) → false ≡ (leb 1 n && p (get_or xs (n - 1) d))
-found_nowhere p d xs n none (inl past) =
-    sym (and_right (leb 1 n) (p (get_or xs (n - 1) d)) (ap p (get_or_past xs (n - 1) d (omega arith)) ∙ none))
-found_nowhere p d xs n none (inr low) = sym (and_left (leb 1 n) (p (get_or xs (n - 1) d)) (grind (arith, nat_tests)))

@@ -66,7 +66,7 @@ most Generator = omega arith
 most Licensee = omega arith
 
 -- a reading's number is a place's, whatever its kind
-pub number_within : (reading : Reading) → reading.number ≤ place_limit
+number_within : (reading : Reading) → reading.number ≤ place_limit
 number_within reading = omega (arith, reading.numbered.1, most reading.kind)
 
 -- a month is far from its limits

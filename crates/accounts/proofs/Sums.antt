@@ -1,9 +1,8 @@
 -- The laws of sums.
-use Rattle.std.proofs.Common.{◌≡◌, ℕ, zero, suc, ◌+◌, ◌-◌, ◌*◌, ◌<◌, ◌≤◌, cond, eqb, leb, List, length, get_or, set, ℤ, pos, ◌+ℤ◌, sym, refl, ◌∙◌, inl, inr, add-zero, add-suc, suc-mul, mul-zero, mul-add, add-one, arith, get_or-set_other, get_or-set_same}
+use Rattle.std.proofs.Common.{◌≡◌, ℕ, zero, suc, ◌+◌, ◌*◌, ◌<◌, ◌≤◌, cond, eqb, leb, ℤ, pos, ◌+ℤ◌, sym, refl, add-zero, add-suc, suc-mul, mul-zero, mul-add, add-one, arith}
 use Rattle.std.proofs.lemmas.Int.{ints}
-use Rattle.std.proofs.lemmas.Bool.{cases_eq}
 use Rattle.std.proofs.lemmas.Bool.Decides.{nat_tests}
-use Rattle.accounts.specs.Sums.{sum_to, sum_toℤ, First}
+use Rattle.accounts.specs.Sums.{sum_to, sum_toℤ}
 
 pub sum_none : (f : ℕ → ℕ) → sum_to f 0 ≡ 0
 unfolding sum_to
@@ -62,31 +61,10 @@ sum_le f b zero h = omega arith
 sum_le f b (suc n) h = omega (arith, sum_le f b n (λ k p. h k (omega arith)), h n (omega arith), suc-mul n b)
 
 -- a sum where one number alone counts
-pub sum_one : (i e x : ℕ) → 1 ≤ i → sum_to (λ k. cond (eqb i (suc k)) x 0) e ≡ cond (leb i e) x 0
+sum_one : (i e x : ℕ) → 1 ≤ i → sum_to (λ k. cond (eqb i (suc k)) x 0) e ≡ cond (leb i e) x 0
 unfolding sum_to
 sum_one i zero x h = grind (arith, nat_tests)
 sum_one i (suc e) x h = let r = sum_one i e x h in grind (arith, nat_tests)
 
 pub sum_place : (i e x : ℕ) → 1 ≤ i → i ≤ e → sum_to (λ k. cond (eqb i (suc k)) x 0) e ≡ x
 sum_place i e x h p = let r = sum_one i e x h in grind (arith, nat_tests)
-
--- a table that is filled from its start
-pub filled : {A : Type 0} (f : ℕ → A) (d : A) (xs : List A) (i : ℕ) (v : A) → i < length xs → ((k : ℕ) → k < i → get_or xs k d ≡ f k) → v ≡ f i → (k : ℕ) → k < i + 1 → get_or (set xs i v) k d ≡ f k
-filled f d xs i v h below e k p =
-    elim (cases_eq k i) [
-      | inl s ↦ rw s (get_or-set_same xs i v d h ∙ e)
-      | inr n ↦ get_or-set_other xs i k v d n ∙ below k (omega arith)
-    ]
-
--- the same for a relation
-pub filled_so : {A : Type 0} (P : ℕ → A → Type 0) (d : A) (xs : List A) (i : ℕ) (v : A) → i < length xs → ((k : ℕ) → k < i → P k (get_or xs k d)) → P i v → (k : ℕ) → k < i + 1 → P k (get_or (set xs i v) k d)
-filled_so P d xs i v h below e k p =
-    elim (cases_eq k i) [
-      | inl s ↦ rw s (rw (get_or-set_same xs i v d h) e)
-      | inr n ↦ rw (get_or-set_other xs i k v d n) (below k (omega arith))
-    ]
-
-pub first_here : (P : ℕ → Type 0) (most i : ℕ) → i < most → P i → ((k : ℕ) → k < i → P k → ⊥) → First P most (i + 1)
-first_here P most i h here before =
-    let e : i + 1 - 1 ≡ i = omega arith in
-    record { counted = omega arith; within = omega arith; here = rw e here; before = λ k p q. before k (omega arith) q }
