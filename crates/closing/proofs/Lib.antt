@@ -3,3 +3,4 @@ pub mod Costs
 pub mod Discovery
 pub mod Settling
 pub mod Made
+pub mod Searching

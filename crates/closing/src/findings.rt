@@ -49,6 +49,7 @@ impl<M: Methodology> Case<'_, M> {
         ensures { AllFound (shows M.Methodology self.now) result }
     {
         let heads = self.heads();
+        // `Default` is not derived for a struct that has a ghost field.
         let none = Finding {
             actual: 0,
             carry: 0,

@@ -1,9 +1,9 @@
 // The tests of a month, each over all heads. A head is told by its number, which counts from 1.
-ghost use Rattle.std.specs.Prelude.{◌≡◌, ◌<◌, ◌≤◌, true, false, ◌+ℤ◌, unsigned_abs};
+ghost use Rattle.std.specs.Prelude.{◌≡◌, ℕ, ◌<◌, ◌≤◌, true, false, ◌+ℤ◌, unsigned_abs};
 ghost use Rattle.methodology.specs.Limits.{head_limit};
 ghost use Rattle.accounts.specs.Limits.{balance_limit};
 ghost use Rattle.settlement.specs.Closing.{limit_of, Empty, Unsupplied, Over, Past};
-ghost use Rattle.closing.specs.Cases.{shows, Searched};
+ghost use Rattle.closing.specs.Cases.{shows, Searched, Told};
 ghost use Rattle.closing.specs.Findings.{Found, AllFound, finding_at};
 
 use crate::case::Case;
@@ -30,6 +30,19 @@ fn passes(account: &Account, found: &Finding) -> bool
 {
     let after = i128::from(account.balance) + found.difference;
     after.unsigned_abs() > BALANCE_LIMIT
+}
+
+// The number of the first head that a test is true of.
+fn first_head<F: Fn(usize) -> bool>(heads: usize, test: F) -> Option<usize>
+    requires { (k : ℕ) → k < heads → F.pre test k }
+    ensures { Told (F.post test) heads result }
+{
+    for k in 0..heads {
+        if test(k) {
+            return Some(k + 1);
+        }
+    }
+    None
 }
 
 impl<M: Methodology> Case<'_, M> {
@@ -73,26 +86,18 @@ impl<M: Methodology> Case<'_, M> {
         passes(&self.account(k), &findings[k])
     }
 
-    // The first head that has no quantity. The proof of a `find` stayed open here: `search` does not get from
-    // what the closure answers to the equation `quantity ≡ 0`.
+    // The first head that has no quantity.
     pub fn first_empty(&self) -> Option<usize>
         ensures { Searched (shows M.Methodology self.now) Empty result }
     {
-        for k in 0..self.heads() {
-            if self.is_empty(k) {
-                return Some(k + 1);
-            }
-        }
-        None
+        first_head(self.heads(), |k| self.is_empty(k))
     }
 
     // The first interval whose energy sent in does not fit what was delivered.
     pub fn first_unsupplied(&self) -> Option<usize>
         ensures { Searched (shows M.Methodology self.now) Unsupplied result }
     {
-        (0..self.heads())
-            .find(|k| self.is_unsupplied(*k))
-            .map(|k| k + 1)
+        first_head(self.heads(), |k| self.is_unsupplied(k))
     }
 
     // The first head whose actual rate passes its limit.
@@ -100,19 +105,14 @@ impl<M: Methodology> Case<'_, M> {
         requires { AllFound (shows M.Methodology self.now) findings.now }
         ensures { Searched (shows M.Methodology self.now) Over result }
     {
-        (0..self.heads())
-            .find(|k| self.is_over(findings, *k))
-            .map(|k| k + 1)
+        first_head(self.heads(), |k| self.is_over(findings, k))
     }
 
     // The first head whose balance would pass its limit in size.
-    #[tactic(auto, unfolding(settlement::specs::Closing::balance))]
     pub fn first_past(&self, findings: &[Finding; HEADS]) -> Option<usize>
         requires { AllFound (shows M.Methodology self.now) findings.now }
         ensures { Searched (shows M.Methodology self.now) Past result }
     {
-        (0..self.heads())
-            .find(|k| self.is_past(findings, *k))
-            .map(|k| k + 1)
+        first_head(self.heads(), |k| self.is_past(findings, k))
     }
 }
