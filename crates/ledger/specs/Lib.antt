@@ -1,4 +1,5 @@
 pub mod Refusals
+pub mod Text
 pub mod Views
 pub mod Verdicts
 pub mod Terms

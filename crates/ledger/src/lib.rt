@@ -6,6 +6,7 @@ pub mod kept;
 pub mod numbers;
 pub mod refusal;
 pub mod stage;
+pub mod told;
 
 pub use kept::Ledger;
 pub use refusal::Refusal;

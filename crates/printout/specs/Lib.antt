@@ -1,5 +1,4 @@
 pub mod Words
-pub mod Refusals
 pub mod Text
 pub mod Counting
 pub mod Numbering

@@ -3,12 +3,12 @@ use Rattle.std.specs.Prelude.{ℕ, List, ◌++◌, codes, decimal}
 use Rattle.metering.specs.declared.refusal.Refusal.{Refusal as FileRefusal}
 use Rattle.metering.specs.Text.{refusal_text as file_refusal_text}
 use Rattle.orders.specs.Limits.{returned_number}
+use Rattle.ledger.specs.Text.{refusal_text}
 use Rattle.history.specs.declared.call.Call.{Call}
 use Rattle.history.specs.declared.answer.Answer.{Answer}
 use Rattle.history.specs.declared.answer.Answer.TheVariants.{Accepted, Metered, Closed, Drawn, Paid, Refused, Returned, Absent}
 use Rattle.printout.specs.declared.verb.Verb.{Verb}
 use Rattle.printout.specs.Words.{verb_of, word, subject_of, subject_text}
-use Rattle.printout.specs.Refusals.{refusal_text}
 
 -- what was answered to a call about a subject, where so many orders are drawn
 abbrev pub answer_text : ℕ → List ℕ → Answer → List ℕ

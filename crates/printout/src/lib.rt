@@ -3,13 +3,11 @@
 
 pub mod line;
 pub mod printer;
-pub mod refused;
 pub mod subject;
 pub mod verb;
 
 pub use line::{FileLine, Line};
 pub use printer::Printer;
-pub use refused::Refused;
 pub use subject::Subject;
 pub use verb::Verb;
 

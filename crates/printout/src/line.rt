@@ -2,7 +2,6 @@
 ghost use Rattle.std.specs.Prelude.{Some};
 ghost use Rattle.printout.specs.Text.{line_text, file_text};
 
-use crate::refused::Refused;
 use crate::subject::Subject;
 use crate::verb::Verb;
 use history::{Answer, Call};
@@ -42,10 +41,7 @@ impl fmt::Display for Line<'_> {
                 )
             }
             Answer::Paid(_, _) => write!(f, "{number} {verb} accepted{subject}"),
-            Answer::Refused(why) => {
-                let refused = Refused(why);
-                write!(f, "{number} {verb} {refused}")
-            }
+            Answer::Refused(why) => write!(f, "{number} {verb} {why}"),
             Answer::Returned => write!(f, "{number} {verb} refused {RETURNED}"),
             Answer::Absent => write!(f, "{number} {verb} absent{subject}"),
         }
