@@ -1,7 +1,7 @@
 -- The sums over the answers are what the law speaks of.
 use Rattle.std.proofs.Common.{◌≡◌, ℕ, zero, suc, ◌+◌, ◌-◌, ◌<◌, ◌≤◌, Bool, true, false, cond, eqb, List, [], ◌∷◌, ◌++◌, length, get_or, set, pos, ◌+ℤ◌, Some, None, Ok, Err, Option, Result, sym, refl, ap, ◌∙◌, subst, append-nil, length-append, length-set, arith, ⊎_elim}
 use Rattle.std.proofs.lemmas.Int.{ints}
-use Rattle.std.proofs.lemmas.Bool.{le-leb, eq-eqb, ne_eqb, cases_eq}
+use Rattle.std.proofs.lemmas.Bool.{le-leb, eq-eqb, eqb-true, ne_eqb, cases_eq}
 use Rattle.std.proofs.lemmas.List.{get_or-set_same, get_or-set_other, get_or-replicate}
 use Rattle.arith.specs.Months.{share as month-share}
 use Rattle.metering.specs.declared.reading.Reading.{Reading}
@@ -32,8 +32,9 @@ use Rattle.history.specs.declared.answer.Answer.{Answer}
 use Rattle.history.specs.declared.answer.Answer.TheVariants.{Absent}
 use Rattle.history.specs.Slots.{in_slots}
 use Rattle.history.specs.Histories.{answer_to, Makes, History, begun, made, lacking}
+use Rattle.statement.specs.declared.tally.PlaceTally.{PlaceTally}
 use Rattle.statement.specs.declared.tally.Tally.{Tally}
-use Rattle.statement.specs.Tallies.{nothing, more_at, with_year, with_dues, with_sheet, with_payment, taken, tallied}
+use Rattle.statement.specs.Tallies.{nothing, no_tally, place_at, plus, more_at, with_year, with_dues, with_sheet, with_payment, taken, tallied}
 use Rattle.statement.proofs.Tallying.{tallied_more}
 
 -- the sums are those of the events
@@ -44,26 +45,45 @@ pub record Tallied (revenues : ℕ) (row : List Meaning) (es : List Event) (t : 
   pub dues : t.dues ≡ closed_dues row es
   pub shares : t.shares ≡ allowed revenues es
   pub yearly : (j : ℕ) → j < 3 → get_or t.yearly j 0 ≡ yearly es j
-  pub given_long : length t.given ≡ place_limit
-  pub released_long : length t.released ≡ place_limit
-  pub given : (p : ℕ) → 1 ≤ p → p ≤ place_limit → get_or t.given (p - 1) 0 ≡ given_at (at_place row p) (accepted_at p es)
-  pub released : (p : ℕ) → 1 ≤ p → p ≤ place_limit → get_or t.released (p - 1) 0 ≡ paid_at p es
+  pub long : length t.places ≡ place_limit
+  pub given : (p : ℕ) → 1 ≤ p → p ≤ place_limit → (place_at t (p - 1)).given ≡ given_at (at_place row p) (accepted_at p es)
+  pub released : (p : ℕ) → 1 ≤ p → p ≤ place_limit → (place_at t (p - 1)).released ≡ paid_at p es
 
 -- more at a place, and nothing more elsewhere
-more_long : (xs : List ℕ) (place n : ℕ) → length (more_at xs place n) ≡ length xs
-more_long xs place n = grind (arith, length-set {A = ℕ})
+more_long : (xs : List PlaceTally) (place n m : ℕ) → length (more_at xs place n m) ≡ length xs
+more_long xs place n m = grind (arith, length-set {A = PlaceTally})
 
-more_here : (xs : List ℕ) (p n : ℕ) → length xs ≡ place_limit → 1 ≤ p → p ≤ place_limit → get_or (more_at xs p n) (p - 1) 0 ≡ get_or xs (p - 1) 0 + n
-more_here xs p n long low high = simp (le-leb 1 p low, le-leb p place_limit high) (get_or-set_same xs (p - 1) (get_or xs (p - 1) 0 + n) 0 (omega arith))
+more_here : (xs : List PlaceTally) (p n m : ℕ) → length xs ≡ place_limit → 1 ≤ p → p ≤ place_limit → get_or (more_at xs p n m) (p - 1) no_tally ≡ plus (get_or xs (p - 1) no_tally) n m
+more_here xs p n m long low high =
+    simp (le-leb 1 p low, le-leb p place_limit high) (get_or-set_same xs (p - 1) (plus (get_or xs (p - 1) no_tally) n m) no_tally (omega arith))
 
-at_cond : (b : Bool) (xs ys : List ℕ) (j : ℕ) → get_or xs j 0 ≡ get_or ys j 0 → get_or (cond b xs ys) j 0 ≡ get_or ys j 0
+at_cond : (b : Bool) (xs ys : List PlaceTally) (j : ℕ) → get_or xs j no_tally ≡ get_or ys j no_tally → get_or (cond b xs ys) j no_tally ≡ get_or ys j no_tally
 at_cond true xs ys j h = h
 at_cond false xs ys j h = refl
 
-more_there : (xs : List ℕ) (place p n : ℕ) → 1 ≤ p → (p ≡ place → ⊥) → get_or (more_at xs place n) (p - 1) 0 ≡ get_or xs (p - 1) 0
-more_there xs zero p n low other = refl
-more_there xs (suc q) p n low other =
-    at_cond _ (set xs (suc q - 1) (get_or xs (suc q - 1) 0 + n)) xs (p - 1) (get_or-set_other xs (suc q - 1) (p - 1) (get_or xs (suc q - 1) 0 + n) 0 (λ e. other (omega arith)))
+more_there : (xs : List PlaceTally) (place p n m : ℕ) → 1 ≤ p → (place ≡ p → ⊥) → get_or (more_at xs place n m) (p - 1) no_tally ≡ get_or xs (p - 1) no_tally
+more_there xs zero p n m low other = refl
+more_there xs (suc q) p n m low other =
+    let more = plus (get_or xs (suc q - 1) no_tally) n m in
+    at_cond _ (set xs (suc q - 1) more) xs (p - 1) (get_or-set_other xs (suc q - 1) (p - 1) more no_tally (λ e. other (omega arith)))
+
+-- a place's sum of which each addition brings so much
+sum_more : (f : PlaceTally → ℕ) (k : ℕ) (xs : List PlaceTally) (place p n m : ℕ) → ((x : PlaceTally) → f (plus x n m) ≡ f x + k) → length xs ≡ place_limit → 1 ≤ p → p ≤ place_limit → f (get_or (more_at xs place n m) (p - 1) no_tally) ≡ f (get_or xs (p - 1) no_tally) + cond (eqb place p) k 0
+sum_more f k xs place p n m brings long low high =
+    ⊎_elim
+    (λ e.
+    let here = ap f (ap (λ q. get_or (more_at xs q n m) (p - 1) no_tally) e ∙ more_here xs p n m long low high) ∙ brings (get_or xs (p - 1) no_tally) in
+    let counted : cond (eqb place p) k 0 ≡ k = ap (λ b. cond b k 0) (eq-eqb place p e) in
+    omega arith)
+    (λ other.
+    let there = ap f (more_there xs place p n m low other) in
+    let counted : cond (eqb place p) k 0 ≡ 0 = ap (λ b. cond b k 0) (ne_eqb place p other) in
+    omega arith)
+    (cases_eq place p)
+
+nothing_more : (n : ℕ) (b : Bool) → n + cond b 0 0 ≡ n
+nothing_more n true = omega arith
+nothing_more n false = omega arith
 
 three : (f : List ℕ) (j : ℕ) → j < 3 → get_or (get_or f 0 0 ∷ get_or f 1 0 ∷ get_or f 2 0 ∷ []) j 0 ≡ get_or f j 0
 three f zero h = refl
@@ -82,8 +102,8 @@ module _ (revenues : ℕ) (few : revenues ≤ 3) (row : List Meaning) where
   no_year e es j none = ap (λ o. some_or o (yearly es j) (λ given. get_or given.figures j 0)) none
 
   -- an event that closes no month
-  unclosed : (e : Event) {es : List Event} {t : Tally} (t' : Tally) → sheet_of e ≡ None → Tallied revenues row es t → t'.bills ≡ t.bills → t'.margins ≡ t.margins → t'.dues ≡ t.dues → t'.shares ≡ t.shares → t'.unsettled ≡ t.unsettled + some_or (reading_of e) 0 (due_after row es) → ((j : ℕ) → j < 3 → get_or t'.yearly j 0 ≡ yearly (e ∷ es) j) → length t'.given ≡ length t.given → length t'.released ≡ length t.released → ((p : ℕ) → 1 ≤ p → p ≤ place_limit → get_or t'.given (p - 1) 0 ≡ given_at (at_place row p) (accepted_at p (e ∷ es))) → ((p : ℕ) → 1 ≤ p → p ≤ place_limit → get_or t'.released (p - 1) 0 ≡ paid_at p (e ∷ es)) → Tallied revenues row (e ∷ es) t'
-  unclosed e {es} {t} t' sheet i bills margin dues shares unsettled years given_long released_long terms payments =
+  unclosed : (e : Event) {es : List Event} {t : Tally} (t' : Tally) → sheet_of e ≡ None → Tallied revenues row es t → t'.bills ≡ t.bills → t'.margins ≡ t.margins → t'.dues ≡ t.dues → t'.shares ≡ t.shares → t'.unsettled ≡ t.unsettled + some_or (reading_of e) 0 (due_after row es) → ((j : ℕ) → j < 3 → get_or t'.yearly j 0 ≡ yearly (e ∷ es) j) → length t'.places ≡ length t.places → ((p : ℕ) → 1 ≤ p → p ≤ place_limit → (place_at t' (p - 1)).given ≡ given_at (at_place row p) (accepted_at p (e ∷ es))) → ((p : ℕ) → 1 ≤ p → p ≤ place_limit → (place_at t' (p - 1)).released ≡ paid_at p (e ∷ es)) → Tallied revenues row (e ∷ es) t'
+  unclosed e {es} {t} t' sheet i bills margin dues shares unsettled years long terms payments =
       record {
         bills = let b = ap (λ o. billed es + some_or o 0 bills_on) sheet in omega (arith, i.bills);
         margins = let m = ap (λ o. margins es +ℤ some_or o (pos 0) (λ s. s.margin)) sheet in let was = i.margins in omega (arith, ints);
@@ -93,8 +113,7 @@ module _ (revenues : ℕ) (few : revenues ≤ 3) (row : List Meaning) where
         dues = let d = ap (λ o. closed_dues row es + some_or o 0 (λ s. open_dues row es)) sheet in omega (arith, i.dues);
         shares = let s = ap (λ o. allowed revenues es + some_or o 0 (λ s. sum_to (λ j. month-share (yearly es j) s.month) revenues)) sheet in omega (arith, i.shares);
         yearly = years;
-        given_long = given_long ∙ i.given_long;
-        released_long = released_long ∙ i.released_long;
+        long = long ∙ i.long;
         given = terms;
         released = payments;
       }
@@ -105,14 +124,14 @@ module _ (revenues : ℕ) (few : revenues ≤ 3) (row : List Meaning) where
       unclosed e {es = es} {t = t} t sheet i refl refl refl refl
       (let r = ap (λ o. t.unsettled + some_or o 0 (due_after row es)) reading in omega arith)
       (λ j h. i.yearly j h ∙ sym (no_year e es j year))
-      refl refl
+      refl
       (λ p low high. i.given p low high ∙ sym (no_reading e es p reading))
       (λ p low high. i.released p low high ∙ sym (no_payment e es p payment))
 
   year_told : (given : Row) (u : Unit {0}) {es : List Event} {t : Tally} → Tallied revenues row es t → Tallied revenues row (filed given (Ok u) ∷ es) (with_year given t)
   year_told given u {es} {t} i =
       let e = filed given (Ok u) in
-      unclosed e {es = es} {t = t} (with_year given t) refl i refl refl refl refl (omega arith) (three given.figures) refl refl
+      unclosed e {es = es} {t = t} (with_year given t) refl i refl refl refl refl (omega arith) (three given.figures) refl
       (λ p low high. i.given p low high ∙ sym (no_reading e es p refl))
       (λ p low high. i.released p low high ∙ sym (no_payment e es p refl))
 
@@ -120,25 +139,19 @@ module _ (revenues : ℕ) (few : revenues ≤ 3) (row : List Meaning) where
   meter_told r u {es} {t} i =
       let e = metered r (Ok u) in
       let n = due_after row es r in
-      unclosed e {es = es} {t = t} (with_dues r.number n t) refl i refl refl refl refl refl (λ j h. i.yearly j h ∙ sym (no_year e es j refl)) (more_long t.given r.number n) refl given (λ p low high. i.released p low high ∙ sym (no_payment e es p refl))
+      unclosed e {es = es} {t = t} (with_dues r.number n t) refl i refl refl refl refl refl (λ j h. i.yearly j h ∙ sym (no_year e es j refl)) (more_long t.places r.number n 0) given
+      (λ p low high. sum_more (λ x. x.released) 0 t.places r.number p n 0 (λ x. refl) i.long low high ∙ nothing_more _ (eqb r.number p) ∙ i.released p low high ∙ sym (no_payment e es p refl))
     where
-      here : 1 ≤ r.number → r.number ≤ place_limit → get_or (more_at t.given r.number (due_after row es r)) (r.number - 1) 0 ≡ given_at (at_place row r.number) (accepted_at r.number (metered r (Ok u) ∷ es))
-      here low high =
-          more_here t.given r.number (due_after row es r) i.given_long low high ∙ ap (λ x. x + due_after row es r) (i.given r.number low high)
-          ∙ sym (given_at_more (at_place row r.number) (accepted_at r.number es) r)
-          ∙ ap (λ b. given_at (at_place row r.number) (accepted_at r.number es ++ cond b (r ∷ []) [])) (sym (eq-eqb r.number r.number refl))
+      due : ℕ
+      due = due_after row es r
 
-      there : (p : ℕ) → 1 ≤ p → p ≤ place_limit → (p ≡ r.number → ⊥) → get_or (more_at t.given r.number (due_after row es r)) (p - 1) 0 ≡ given_at (at_place row p) (accepted_at p (metered r (Ok u) ∷ es))
-      there p low high other =
-          more_there t.given r.number p (due_after row es r) low other ∙ i.given p low high
-          ∙ ap (given_at (at_place row p)) (sym (append-nil (accepted_at p es)) ∙ ap (λ b. accepted_at p es ++ cond b (r ∷ []) []) (sym (ne_eqb r.number p (λ e. other (sym e)))))
+      counted : (p : ℕ) (b : Bool) → eqb r.number p ≡ b → given_at (at_place row p) (accepted_at p es) + cond b due 0 ≡ given_at (at_place row p) (accepted_at p es ++ cond b (r ∷ []) [])
+      counted p true is = subst (λ q. given_at (at_place row q) (accepted_at q es) + due ≡ given_at (at_place row q) (accepted_at q es ++ r ∷ [])) (eqb-true r.number p is) (sym (given_at_more (at_place row r.number) (accepted_at r.number es) r))
+      counted p false is = omega arith ∙ ap (given_at (at_place row p)) (sym (append-nil (accepted_at p es)))
 
-      given : (p : ℕ) → 1 ≤ p → p ≤ place_limit → get_or (more_at t.given r.number (due_after row es r)) (p - 1) 0 ≡ given_at (at_place row p) (accepted_at p (metered r (Ok u) ∷ es))
+      given : (p : ℕ) → 1 ≤ p → p ≤ place_limit → (place_at (with_dues r.number due t) (p - 1)).given ≡ given_at (at_place row p) (accepted_at p (metered r (Ok u) ∷ es))
       given p low high =
-          ⊎_elim
-          (λ e. subst (λ q. get_or (more_at t.given r.number (due_after row es r)) (q - 1) 0 ≡ given_at (at_place row q) (accepted_at q (metered r (Ok u) ∷ es))) (sym e) (here (omega arith) (omega arith)))
-          (there p low high)
-          (cases_eq p r.number)
+          sum_more (λ x. x.given) due t.places r.number p due 0 (λ x. refl) i.long low high ∙ ap (λ x. x + cond (eqb r.number p) due 0) (i.given p low high) ∙ counted p (eqb r.number p) refl
 
   close_told : (readings deliveries : ℕ) (s s' : Sheet) (u : Unit {0}) {es : List Event} {t : Tally} → Tallied revenues row es t → Tallied revenues row (closed readings deliveries s (Ok u) s' ∷ es) (with_sheet revenues s' t)
   close_told readings deliveries s s' u {es} {t} i =
@@ -152,8 +165,7 @@ module _ (revenues : ℕ) (few : revenues ≤ 3) (row : List Meaning) where
             let same = sum_same (λ j. month-share (get_or t.yearly j 0) s'.month) (λ j. month-share (yearly es j) s'.month) revenues (λ j h. ap (λ y. month-share y s'.month) (i.yearly j (omega arith))) in
             omega (arith, i.shares);
         yearly = i.yearly;
-        given_long = i.given_long;
-        released_long = i.released_long;
+        long = i.long;
         given = λ p low high. i.given p low high ∙ sym (no_reading e es p refl);
         released = λ p low high. i.released p low high ∙ sym (no_payment e es p refl);
       }
@@ -161,21 +173,11 @@ module _ (revenues : ℕ) (few : revenues ≤ 3) (row : List Meaning) where
   release_told : (o : PayOrder) (paid : Paid) {es : List Event} {t : Tally} → paid ≡ record { place = o.place; cents = o.cents } → Tallied revenues row es t → Tallied revenues row (released o (Ok paid) ∷ es) (with_payment paid.place paid.cents t)
   release_told o paid {es} {t} same i =
       let e = released o (Ok paid) in
-      unclosed e {es = es} {t = t} (with_payment paid.place paid.cents t) refl i refl refl refl refl (omega arith) (λ j h. i.yearly j h ∙ sym (no_year e es j refl)) refl (more_long t.released paid.place paid.cents)
-      (λ p low high. i.given p low high ∙ sym (no_reading e es p refl))
+      unclosed e {es = es} {t = t} (with_payment paid.place paid.cents t) refl i refl refl refl refl (omega arith) (λ j h. i.yearly j h ∙ sym (no_year e es j refl)) (more_long t.places paid.place 0 paid.cents)
+      (λ p low high. sum_more (λ x. x.given) 0 t.places paid.place p 0 paid.cents (λ x. refl) i.long low high ∙ nothing_more _ (eqb paid.place p) ∙ i.given p low high ∙ sym (no_reading e es p refl))
       (λ p low high.
-      ⊎_elim
-      (λ e.
-      let here = subst (λ q. get_or (more_at t.released q paid.cents) (p - 1) 0 ≡ get_or t.released (p - 1) 0 + paid.cents) e (more_here t.released p paid.cents i.released_long low high) in
-      let place : p ≡ o.place = e ∙ ap (λ (x : Paid). x.place) same in
-      let cents = ap (λ (x : Paid). x.cents) same in
-      let counted : cond (eqb o.place p) o.cents 0 ≡ o.cents = ap (λ b. cond b o.cents 0) (eq-eqb o.place p (sym place)) in
-      omega (arith, i.released p low high))
-      (λ other.
-      let there = more_there t.released paid.place p paid.cents low other in
-      let counted : cond (eqb o.place p) o.cents 0 ≡ 0 = ap (λ b. cond b o.cents 0) (ne_eqb o.place p (λ e. other (sym e ∙ sym (ap (λ (x : Paid). x.place) same)))) in
-      omega (arith, i.released p low high))
-      (cases_eq p paid.place))
+      sum_more (λ x. x.released) paid.cents t.places paid.place p 0 paid.cents (λ x. refl) i.long low high ∙ ap (λ n. n + cond (eqb paid.place p) paid.cents 0) (i.released p low high)
+      ∙ ap (λ (x : Paid). paid_at p es + cond (eqb x.place p) x.cents 0) same)
 
   module _ (shape : Shape) (market : Market) (serial : ℕ) (others : List (Option PayOrder)) where
     -- one call more, with its answer
@@ -239,12 +241,14 @@ module _ (revenues : ℕ) (few : revenues ≤ 3) (row : List Meaning) where
           dues = refl;
           shares = refl;
           yearly = λ j h. get_or-replicate {A = ℕ} 3 j 0 0 h;
-          given_long = refl;
-          released_long = refl;
-          given = λ p low high. get_or-replicate {A = ℕ} place_limit (p - 1) 0 0 (omega arith) ∙ sym (none_given (at_place row p));
-          released = λ p low high. get_or-replicate {A = ℕ} place_limit (p - 1) 0 0 (omega arith);
+          long = refl;
+          given = λ p low high. ap (λ (x : PlaceTally). x.given) (nothing_at p low high) ∙ sym (none_given (at_place row p));
+          released = λ p low high. ap (λ (x : PlaceTally). x.released) (nothing_at p low high);
         }
       where
+        nothing_at : (p : ℕ) → 1 ≤ p → p ≤ place_limit → place_at nothing (p - 1) ≡ no_tally
+        nothing_at p low high = get_or-replicate {A = PlaceTally} place_limit (p - 1) no_tally no_tally (omega arith)
+
         none_given : (place : Option Meaning) → given_at place [] ≡ 0
         none_given None = refl
         none_given (Some m) = refl

@@ -1,7 +1,9 @@
 -- How large a tally's sums may be.
-use Rattle.std.specs.Prelude.{ℕ, ◌+◌, ◌^◌, ◌<◌, ◌≤◌, slice_index, unsigned_abs}
+use Rattle.std.specs.Prelude.{ℕ, ◌+◌, ◌^◌, ◌<◌, ◌≤◌, unsigned_abs}
 use Rattle.orders.specs.Limits.{place_limit}
+use Rattle.statement.specs.declared.tally.PlaceTally.{PlaceTally}
 use Rattle.statement.specs.declared.tally.Tally.{Tally}
+use Rattle.statement.specs.Tallies.{place_at}
 
 -- most calls that are added up: each adds less than 2 ^ 67 to a sum
 abbrev pub call_limit : ℕ
@@ -10,11 +12,15 @@ call_limit = 2 ^ 32
 abbrev pub turn : ℕ
 turn = 2 ^ 67
 
+-- neither sum of a place is larger than n
+pub record Small (n : ℕ) (p : PlaceTally) : Type 0 where
+  pub given : p.given ≤ n
+  pub released : p.released ≤ n
+
 -- no sum is larger than n
 pub record Within (n : ℕ) (t : Tally) : Type 0 where
   pub bills : t.bills ≤ n
   pub margins : unsigned_abs t.margins ≤ n
   pub dues : t.dues + t.unsettled ≤ n
   pub shares : t.shares ≤ n
-  pub given : (k : ℕ) → k < place_limit → slice_index t.given k ≤ n
-  pub released : (k : ℕ) → k < place_limit → slice_index t.released k ≤ n
+  pub places : (k : ℕ) → k < place_limit → Small n (place_at t k)

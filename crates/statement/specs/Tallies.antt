@@ -1,5 +1,5 @@
 -- What the answers to a list of calls add up to, one call after another.
-use Rattle.std.specs.Prelude.{ℕ, ◌+◌, ◌-◌, cond, ◌&&◌, List, [], ◌∷◌, replicate, pos, ◌+ℤ◌, nat_le, slice_index, slice_set}
+use Rattle.std.specs.Prelude.{ℕ, ◌+◌, ◌-◌, cond, ◌&&◌, List, [], ◌∷◌, replicate, pos, ◌+ℤ◌, nat_le, slice_index, slice_index_or, slice_set}
 use Rattle.arith.specs.Months.{share as month-share}
 use Rattle.accounts.specs.declared.sheet.Sheet.{Sheet}
 use Rattle.accounts.specs.Sums.{sum_to}
@@ -10,37 +10,49 @@ use Rattle.history.specs.declared.call.Call.{Call}
 use Rattle.history.specs.declared.call.Call.TheVariants.{Year, Tariff, Meter, Deliver, Close, Draw, Present}
 use Rattle.history.specs.declared.answer.Answer.{Answer}
 use Rattle.history.specs.declared.answer.Answer.TheVariants.{Accepted, Metered, Closed, Drawn, Paid, Refused, Returned, Absent}
+use Rattle.statement.specs.declared.tally.PlaceTally.{PlaceTally}
 use Rattle.statement.specs.declared.tally.Tally.{Tally}
+
+abbrev pub no_tally : PlaceTally
+no_tally = record { given = 0; released = 0 }
+
+-- what came to the place behind so many
+abbrev pub place_at : Tally → ℕ → PlaceTally
+place_at t k = slice_index_or t.places k no_tally
 
 -- before any call
 abbrev pub nothing : Tally
 nothing =
-    record { bills = 0; margins = pos 0; unsettled = 0; dues = 0; shares = 0; yearly = replicate 3 0; given = replicate place_limit 0; released = replicate place_limit 0 }
+    record { bills = 0; margins = pos 0; unsettled = 0; dues = 0; shares = 0; yearly = replicate 3 0; places = replicate place_limit no_tally }
+
+-- so many grains given and cents released besides
+abbrev pub plus : PlaceTally → ℕ → ℕ → PlaceTally
+plus p given released = record { given = p.given + given; released = p.released + released }
 
 -- so much more at a place, which counts from 1; nothing where there is no such place
-abbrev pub more_at : List ℕ → ℕ → ℕ → List ℕ
-more_at xs place n =
-    cond (nat_le 1 place && nat_le place place_limit) (slice_set xs (place - 1) (slice_index xs (place - 1) + n)) xs
+abbrev pub more_at : List PlaceTally → ℕ → ℕ → ℕ → List PlaceTally
+more_at xs place given released =
+    cond (nat_le 1 place && nat_le place place_limit) (slice_set xs (place - 1) (plus (slice_index_or xs (place - 1) no_tally) given released)) xs
 
 -- a year is filed
 abbrev pub with_year : Row → Tally → Tally
 with_year given t =
-    record { bills = t.bills; margins = t.margins; unsettled = t.unsettled; dues = t.dues; shares = t.shares; yearly = slice_index given.figures 0 ∷ slice_index given.figures 1 ∷ slice_index given.figures 2 ∷ []; given = t.given; released = t.released }
+    record { bills = t.bills; margins = t.margins; unsettled = t.unsettled; dues = t.dues; shares = t.shares; yearly = slice_index given.figures 0 ∷ slice_index given.figures 1 ∷ slice_index given.figures 2 ∷ []; places = t.places }
 
 -- a reading has its dues
 abbrev pub with_dues : ℕ → ℕ → Tally → Tally
 with_dues place n t =
-    record { bills = t.bills; margins = t.margins; unsettled = t.unsettled + n; dues = t.dues; shares = t.shares; yearly = t.yearly; given = more_at t.given place n; released = t.released }
+    record { bills = t.bills; margins = t.margins; unsettled = t.unsettled + n; dues = t.dues; shares = t.shares; yearly = t.yearly; places = more_at t.places place n 0 }
 
 -- a month is closed: its shares are those of the year in force
 abbrev pub with_sheet : ℕ → Sheet → Tally → Tally
 with_sheet revenues s t =
-    record { bills = t.bills + bills_on s; margins = t.margins +ℤ s.margin; unsettled = 0; dues = t.dues + t.unsettled; shares = t.shares + sum_to (λ j. month-share (slice_index t.yearly j) s.month) revenues; yearly = t.yearly; given = t.given; released = t.released }
+    record { bills = t.bills + bills_on s; margins = t.margins +ℤ s.margin; unsettled = 0; dues = t.dues + t.unsettled; shares = t.shares + sum_to (λ j. month-share (slice_index t.yearly j) s.month) revenues; yearly = t.yearly; places = t.places }
 
 -- an order is released
 abbrev pub with_payment : ℕ → ℕ → Tally → Tally
 with_payment place cents t =
-    record { bills = t.bills; margins = t.margins; unsettled = t.unsettled; dues = t.dues; shares = t.shares; yearly = t.yearly; given = t.given; released = more_at t.released place cents }
+    record { bills = t.bills; margins = t.margins; unsettled = t.unsettled; dues = t.dues; shares = t.shares; yearly = t.yearly; places = more_at t.places place 0 cents }
 
 -- an accepted call that says no more than that
 abbrev pub with_accepted : Call → Tally → Tally

@@ -8,6 +8,15 @@ use rates::REVENUES;
 
 pub mod adding;
 
+// What came to a place.
+#[derive(Clone, Copy)]
+pub struct PlaceTally {
+    // Grains that its terms gave.
+    pub given: u128,
+    // Cents on its released orders.
+    pub released: u128,
+}
+
 #[derive(Clone, Copy)]
 pub struct Tally {
     // Cents billed, and loss margins in grains.
@@ -19,7 +28,6 @@ pub struct Tally {
     // Cents that the closed months' shares allow, and the yearly revenues in force.
     pub shares: u128,
     pub yearly: [u64; REVENUES],
-    // By place, place 1 first: grains that its terms gave, and cents on its released orders.
-    pub given: [u128; PLACES],
-    pub released: [u128; PLACES],
+    // By place, place 1 first.
+    pub places: [PlaceTally; PLACES],
 }

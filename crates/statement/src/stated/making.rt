@@ -84,14 +84,14 @@ impl Sources<'_> {
         requires { before < place_limit }
         ensures { Holds self.now.tally.now self.now.ledger.now.till (before + 1) result }
     {
-        let tally = self.tally;
+        let place = self.tally.places[before];
         // There are 32 places, so the cast leaves the number as it is.
         let money = self.ledger.till.money(before as u8 + 1);
         PlaceMoney {
-            released: CENT * tally.released[before],
+            released: CENT * place.released,
             in_hand: CENT * u128::from(money.on_orders),
             standing: u128::from(money.standing),
-            terms: tally.given[before],
+            terms: place.given,
         }
     }
 

@@ -1,15 +1,15 @@
 // Adding up one answer after another.
-ghost use Rattle.std.specs.Prelude.{◌≡◌, ℕ, ◌+◌, ◌*◌, ◌^◌, ◌<◌, ◌≤◌, length, slice_index};
+ghost use Rattle.std.specs.Prelude.{◌≡◌, ℕ, ◌+◌, ◌*◌, ◌^◌, ◌<◌, ◌≤◌, length, slice_index, slice_index_or};
 ghost use Rattle.arith.specs.Months.{share as month_share_of};
 ghost use Rattle.accounts.specs.Limits.{licensee_limit};
 ghost use Rattle.accounts.specs.Sums.{sum_to};
 ghost use Rattle.methodology.specs.Limits.{revenue_limit};
 ghost use Rattle.orders.specs.Limits.{place_limit};
 ghost use Rattle.settlement.specs.Law.{bill_of, bills_on};
-ghost use Rattle.statement.specs.Tallies.{nothing, more_at, with_year, with_dues, with_sheet, with_payment, with_accepted, with_metered, taken, tallied};
-ghost use Rattle.statement.specs.Bounds.{call_limit, turn, Within};
+ghost use Rattle.statement.specs.Tallies.{nothing, no_tally, plus, more_at, with_year, with_dues, with_sheet, with_payment, with_accepted, with_metered, taken, tallied};
+ghost use Rattle.statement.specs.Bounds.{call_limit, turn, Small, Within};
 
-use crate::tally::Tally;
+use crate::tally::{PlaceTally, Tally};
 use crate::total::total;
 use accounts::{Billed, PLACES, Sheet};
 use arith::months::month_share;
@@ -45,14 +45,26 @@ fn shares_of(yearly: &[u64; REVENUES], shape: Shape, month: u8) -> u128
     )
 }
 
-// So much more at a place, where there is such a place.
-fn more_at(sums: &mut [u128; PLACES], place: u8, n: u64)
-    requires { (k : ℕ) → k < place_limit → slice_index sums.old k < 2 ^ 127 }
-    ensures value { sums.new ≡ more_at sums.old place n }
-    ensures short { n < 2 ^ 64 }
+impl PlaceTally {
+    // So many grains and cents more.
+    fn add(&mut self, given: u64, released: u64)
+        requires { Small (2 ^ 127) self.old }
+        ensures { self.new ≡ plus self.old given released }
+    {
+        self.given += u128::from(given);
+        self.released += u128::from(released);
+    }
+}
+
+// So many grains and cents more at a place, where there is such a place.
+fn more_at(places: &mut [PlaceTally; PLACES], place: u8, given: u64, released: u64)
+    requires { (k : ℕ) → k < place_limit → Small (2 ^ 127) (slice_index_or places.old k no_tally) }
+    ensures value { places.new ≡ more_at places.old place given released }
+    ensures short { given < 2 ^ 64 }
+    ensures brief { released < 2 ^ 64 }
 {
     if let Some(index) = index_of(usize::from(place), PLACES) {
-        sums[index] += u128::from(n);
+        places[index].add(given, released);
     }
 }
 
@@ -68,8 +80,10 @@ impl Tally {
             dues: 0,
             shares: 0,
             yearly: [0; REVENUES],
-            given: [0; PLACES],
-            released: [0; PLACES],
+            places: [PlaceTally {
+                given: 0,
+                released: 0,
+            }; PLACES],
         }
     }
 
@@ -102,11 +116,11 @@ impl Tally {
         match (*answer, call) {
             (Answer::Accepted, Call::Year(row)) => self.file(row),
             (Answer::Metered(dues), Call::Meter(reading)) => {
-                more_at(&mut self.given, reading.number, dues);
+                more_at(&mut self.places, reading.number, dues, 0);
                 self.unsettled += u128::from(dues);
             }
             (Answer::Closed(sheet), _) => self.close(shape, &sheet),
-            (Answer::Paid(place, cents), _) => more_at(&mut self.released, place, cents),
+            (Answer::Paid(place, cents), _) => more_at(&mut self.places, place, 0, cents),
             _ => {}
         }
     }

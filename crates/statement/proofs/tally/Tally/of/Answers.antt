@@ -1,9 +1,10 @@
-use Rattle.std.proofs.Common.{◌≡◌, ℕ, ◌+◌, ◌*◌, [], ◌∷◌, ◌++◌, length, length-append, rules, sym, ap, ◌∙◌, subst, arith, lit≤}
+use Rattle.std.proofs.Common.{◌≡◌, ◌+◌, ◌*◌, [], ◌∷◌, ◌++◌, length, length-append, rules, sym, ap, ◌∙◌, subst, arith, lit≤}
 use Rattle.std.proofs.lemmas.List.{get_or-replicate}
 use Rattle.std.proofs.lemmas.Slice.Zip.{zip_turn}
+use Rattle.statement.specs.declared.tally.PlaceTally.{PlaceTally}
 use Rattle.orders.specs.Limits.{place_limit}
-use Rattle.statement.specs.Tallies.{nothing, taken}
-use Rattle.statement.specs.Bounds.{turn, Within}
+use Rattle.statement.specs.Tallies.{nothing, no_tally, taken}
+use Rattle.statement.specs.Bounds.{turn, Small, Within}
 use Rattle.statement.proofs.Tallying.{tallied_none, tallied_next}
 use Rattle.statement.proofs.tally.Tally.of.Goals as goal
 
@@ -14,8 +15,7 @@ none_within =
       margins = lit≤ tt;
       dues = lit≤ tt;
       shares = lit≤ tt;
-      given = λ k h. omega (arith, get_or-replicate {A = ℕ} place_limit k 0 0 h);
-      released = λ k h. omega (arith, get_or-replicate {A = ℕ} place_limit k 0 0 h);
+      places = λ k h. subst (Small 0) (sym (get_or-replicate {A = PlaceTally} place_limit k no_tally no_tally h)) (record { given = lit≤ tt; released = lit≤ tt });
     }
 
 pub loop-call-init : goal.loop-call-init
