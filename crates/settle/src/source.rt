@@ -12,6 +12,7 @@ pub struct Source<'a> {
 }
 
 // The text of a file.
+// `meterfile` says this of each of its files by one function, which also tells refusals: a shared one would be no plainer.
 pub fn read_text(rt: &HostRuntime, path: &str) -> Result<String, Failure> {
     match fs::read_to_string(rt, path) {
         Ok(text) => Ok(text),
@@ -60,6 +61,7 @@ impl<'a> Source<'a> {
     }
 
     // Prints the line that a message is about, under the message.
+    // `meterfile` has it too: a shared one would be a library's function with a contract, longer than these two.
     fn show_line(self, rt: &HostRuntime, line: usize) -> Failure {
         if let Some(wrong) = self.text.lines().nth(line.saturating_sub(1))
             && let Err(error) = eprintln!(rt; "    {wrong}")
