@@ -15,6 +15,7 @@ pub mod tally;
 // Most places that a market has, as the length of a list.
 pub const PLACES: usize = metering::PLACES as usize;
 
+// Two tables by head side by side: every head has income, an interval energy as well, and the law sums each by itself.
 // What the readings of a month come to so far. Tables by head have head 1 first, lists place 1 or licensee 1.
 #[derive(Clone, Copy)]
 pub struct Month {

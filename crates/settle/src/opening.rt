@@ -14,6 +14,7 @@ pub struct RefusedFile {
     pub refusal: Refusal,
 }
 
+// Two tables side by side: the calls are performed as a slice, and a refused file makes none.
 // The calls in their order; and for each entry of the journal the file that was refused in place of a call, if one was.
 #[derive(Drop)]
 pub struct List {
