@@ -57,15 +57,6 @@ impl<M: Methodology> Case<'_, M> {
         k > M::shape().revenues && (sent < delivered || sent > 2 * delivered)
     }
 
-    // Whether a head has no quantity.
-    fn is_empty(&self, k: usize) -> bool
-        requires { k < head_limit }
-        ensures none { result ≡ true → Empty (shows M.Methodology self.now) k }
-        ensures some { result ≡ false → Empty (shows M.Methodology self.now) k → ⊥ }
-    {
-        self.quantity(k) == 0
-    }
-
     // Whether an actual rate passes its limit.
     fn is_over(&self, findings: &[Finding; HEADS], k: usize) -> bool
         requires place { k < head_limit }
@@ -90,7 +81,7 @@ impl<M: Methodology> Case<'_, M> {
     pub fn first_empty(&self) -> Option<usize>
         ensures { Searched (shows M.Methodology self.now) Empty result }
     {
-        first_head(self.heads(), |k| self.is_empty(k))
+        first_head(self.heads(), |k| self.quantity(k) == 0)
     }
 
     // The first interval whose energy sent in does not fit what was delivered.
