@@ -33,6 +33,7 @@ fn passes(account: &Account, found: &Finding) -> bool
 }
 
 // The number of the first head that a test is true of.
+// No `find`: that asks that the test can be called at any number, and the tests here ask that it is a head's.
 fn first_head<F: Fn(usize) -> bool>(heads: usize, test: F) -> Option<usize>
     requires { (k : ℕ) → k < heads → F.pre test k }
     ensures { Told (F.post test) heads result }
