@@ -9,7 +9,8 @@ use crate::refusal::BankRefusal;
 use agreements::Dues;
 use metering::Reading;
 
-// A bank holds agreements at places, which count from 1. It answers at a place as the agreement there would.
+// A bank holds agreements at places, which count from 1. It answers at a place as the agreement there would, into the
+// caller's table, which a refusal leaves.
 pub trait Bank {
     // What the agreement at each place means, place 1 first.
     ghost row: { Self → List Meaning };
