@@ -44,6 +44,7 @@ impl Amount for u128 {
 
     fn div_rem(self, quantity: u64) -> (u128, u64) {
         let quantity = u128::from(quantity);
+        // What is left over is less than the quantity, which has 64 bits.
         (self / quantity, (self % quantity) as u64)
     }
 }

@@ -29,5 +29,6 @@ pub fn floor_div(n: i64, d: u64) -> Result<i64, NoQuantity>
     if d == 0 {
         return Err(NoQuantity);
     }
+    // A quotient is no larger in size than n.
     Ok(i128::from(n).div_euclid(i128::from(d)) as i64)
 }

@@ -18,8 +18,8 @@ pub fn scale_ppm(x: u64, ppm: u32) -> u128
     u128::from(x) * (u128::from(WHOLE_PPM) + u128::from(ppm)) / u128::from(WHOLE_PPM)
 }
 
-// The same of a signed number, rounded towards minus infinity. It stands beside `scale_ppm`, since no trait of std has `div_euclid`:
-// a trait for the two would have these two bodies as its impls, and a member for each of the definitions that their clauses name.
+// The same of a signed number, rounded towards minus infinity. It stands beside `scale_ppm`: a trait for the two would have
+// these two bodies as its impls, and a member for each of the definitions that their clauses name.
 pub fn scale_ppm_signed(x: i64, ppm: u32) -> i128
     ensures value { result ≡ more_by_signed ppm x }
     ensures floored { Floor (x *ℤ pos (whole_ppm + ppm)) whole_ppm result }

@@ -3,6 +3,7 @@ use Rattle.std.specs.Prelude.{◌≡◌, ℕ, zero, suc, ◌+◌, ◌-◌, ◌<�
 use Rattle.std.proofs.Common.{sym, ap, subst, ◌∙◌, ⊎_elim, arith}
 use Rattle.std.proofs.lemmas.List.{length-take, length-append, get_or-take, get_or_append_left, get_or-append_right, set-append_left, set-append_right}
 use Rattle.std.proofs.lemmas.Bool.{cases_eq, cases_lt}
+use Rattle.std.proofs.Math.Seq.{take-set-lt}
 use Rattle.metering.specs.declared.reading.Reading.{Reading}
 use Rattle.agreements.specs.Meaning.{Meaning, moved}
 use Rattle.banks.specs.Limits.{place_limit}
@@ -32,13 +33,6 @@ abbrev pub IsSide : List Meaning → List Meaning → ℕ → Result Side BankRe
 IsSide l r k (Ok (Left j)) = OnLeft l r k j
 IsSide l r k (Ok (Right j)) = OnRight l r k j
 IsSide l r k (Err e) = (e ≡ NoPlace) × OnNeither l r k
-
--- a write below the cut
-set_take : (n : ℕ) (xs : List Meaning) (i : ℕ) (m : Meaning) → i < n → slice_set (take n xs) i m ≡ take n (slice_set xs i m)
-set_take zero xs i m h = absurd (omega arith)
-set_take (suc n) [] i m h = refl
-set_take (suc n) (x ∷ xs) zero m h = refl
-set_take (suc n) (x ∷ xs) (suc i) m h = ap (λ ys. x ∷ ys) (set_take n xs i m (omega arith))
 
 module _ (l r : List Meaning) where
   pub length_sides : length (side_by_side l r) ≡ min place_limit (length l + length r)
@@ -74,7 +68,7 @@ module _ (l r : List Meaning) where
         (λ (z : k ≡ 0). ap (put_at (side_by_side l r) k rd) (at_zero (side_by_side l r) k z) ∙ sym (ap (λ o. side_by_side (put_at l k rd o) r) (at_zero l k z)))
         (λ (z : k ≡ 0 → ⊥).
         ap (put_at (side_by_side l r) k rd) (at_left k few h ∙ at_in l k (omega arith) h)
-        ∙ set_take place_limit (l ++ r) (k - 1) _ (omega arith)
+        ∙ sym (take-set-lt place_limit (l ++ r) (k - 1) _ (omega arith))
         ∙ ap (take place_limit) (set-append_left l r (k - 1) _ (omega arith))
         ∙ sym (ap (λ o. side_by_side (put_at l k rd o) r) (at_in l k (omega arith) h)))
         (cases_eq k 0)
@@ -87,7 +81,7 @@ module _ (l r : List Meaning) where
         ∙ sym (ap (λ o. side_by_side l (put_at r (k - length l) rd o)) (at_past r (k - length l) z)))
         (λ (z : k - length l ≤ length r).
         ap (put_at (side_by_side l r) k rd) (at_right k h h' ∙ at_in r (k - length l) (omega arith) z)
-        ∙ set_take place_limit (l ++ r) (k - 1) _ (omega arith)
+        ∙ sym (take-set-lt place_limit (l ++ r) (k - 1) _ (omega arith))
         ∙ ap (take place_limit) (set-append_right l r (length l) (k - 1) _ refl (omega arith))
         ∙ ap (λ i. take place_limit (l ++ slice_set r i (moved (slice_index_or r (k - length l - 1) nowhere) rd))) (omega arith)
         ∙ sym (ap (λ o. side_by_side l (put_at r (k - length l) rd o)) (at_in r (k - length l) (omega arith) z)))

@@ -10,7 +10,8 @@ use agreements::Dues;
 use metering::Reading;
 
 // A bank holds agreements at places, which count from 1. It answers at a place as the agreement there would, into the
-// caller's table, which a refusal leaves.
+// caller's table, which a refusal leaves. It is a rule here that a refusal comes up through layers and banks by `?`, so each
+// bank's two methods end alike; they differ in `ask` and `book`, and `&self` and `&mut self`.
 pub trait Bank {
     // What the agreement at each place means, place 1 first.
     ghost row: { Self → List Meaning };

@@ -1,3 +1,2 @@
-mod Shapes
 mod Dues
 mod Admitting

@@ -1,4 +1,4 @@
 pub mod Listed
 pub mod Limited
 pub mod Same
-pub mod Most
+pub mod Clock

@@ -5,3 +5,4 @@ pub mod Verdict
 pub mod Figures
 pub mod Makes
 pub mod Text
+pub mod Most

@@ -15,10 +15,8 @@ impl fmt::Display for ClockTime {
 
     fn fmt<W: fmt::Write>(&self, f: &mut fmt::Formatter<W>) -> fmt::Result {
         let hour = self.0 / 2;
-        let tens = hour / 10;
-        let ones = hour % 10;
-        let minutes = self.0 % 2 * 3;
-        write!(f, "{tens}{ones}:{minutes}0")
+        let minutes = self.0 % 2 * 30;
+        write!(f, "{hour:02}:{minutes:02}")
     }
 }
 
@@ -30,16 +28,16 @@ pub struct HalfHour {
 }
 
 impl HalfHour {
-    // The half-hour of a block, if the day has that block. An Option and no TryFrom: all that an error could say is the block.
+    // The half-hour of a block, if the day has that block. An Option and no `TryFrom`: the refusal of a block is
+    // `Refusal::Energy` in figures and none where a half-hour is asked for.
     pub fn of(block: usize) -> Option<HalfHour>
         ensures test { is_some result ≡ nat_lt block block_count }
         ensures found { IfSome result (λ h. h.block ≡ block) }
     {
-        if block < BLOCKS {
-            Some(HalfHour { block: block as u8 })
-        } else {
-            None
-        }
+        let block = u8::try_from(block)
+            .ok()
+            .filter(|block| usize::from(*block) < BLOCKS)?;
+        Some(HalfHour { block })
     }
 }
 

@@ -29,6 +29,7 @@ pub trait Methodology {
     fn shape() -> Shape
         ensures revenues { result.revenues ≡ shape.revenues }
         ensures intervals { result.intervals ≡ shape.intervals }
+        ensures whole { result ≡ shape }
     {
         Shape {
             revenues: Self::REVENUES,

@@ -2,27 +2,21 @@
 use Rattle.std.proofs.Common.{◌≡◌, ℕ, ◌<◌, ◌^◌, true, ltb, List, [], ◌∷◌, length, Ok, Err, Some, Result, ap, sym, ◌∙◌, rules, arith}
 use native.Mathlib.Nat.{min-eq_left, min-eq_right}
 use Rattle.std.specs.Result.{result_ok, result_unwrap_or}
-use Rattle.std.specs.Str.{IsUtf8, IsAscii}
+use Rattle.std.specs.Str.{IsUtf8}
 use Rattle.std.specs.Str.Parse.{digits_value, ParsesUnsigned}
 use Rattle.std.proofs.lemmas.Bool.{and_parts, leb-true, ltb-true, cond-true, cond-false, and_from, and_right, lt-ltb, le-ltb}
 use Rattle.std.proofs.lemmas.Str.{IsUtf8-from_ascii}
-use Rattle.std.proofs.lemmas.Str.Ascii.{IsAscii-nil, IsAscii-cons}
+use Rattle.std.proofs.lemmas.Fmt.{IsAscii-from_digits}
 use Rattle.std.proofs.lemmas.Str.Parse.{IsNumeralModel, numerals_by_value, parse_digits}
 use Rattle.words.specs.Figures.{digit, all_digits, is_figure, figure_of, number_of}
-
-digits_ascii : (w : List ℕ) → all_digits w ≡ true → IsAscii w
-digits_ascii [] h = IsAscii-nil
-digits_ascii (c ∷ cs) h =
-    let p = and_parts (digit c) (all_digits cs) h in
-    IsAscii-cons c cs (omega (arith, leb-true c 57 (and_parts _ _ p.0).1)) (digits_ascii cs p.1)
-
--- a figure is text
-pub figure_utf8 : (w : List ℕ) → is_figure w ≡ true → IsUtf8 w
-figure_utf8 w h = IsUtf8-from_ascii w (digits_ascii w (and_parts (ltb 0 (length w)) (all_digits w) h).1)
 
 -- the parser's digits are these
 numerals : IsNumeralModel (λ ds. all_digits ds ≡ true) (digits_value 10)
 numerals = numerals_by_value _ (search rules)
+
+-- a figure is text
+pub figure_utf8 : (w : List ℕ) → is_figure w ≡ true → IsUtf8 w
+figure_utf8 w h = IsUtf8-from_ascii w (IsAscii-from_digits w (numerals.to w (and_parts (ltb 0 (length w)) (all_digits w) h).1))
 
 parts : (w : List ℕ) → is_figure w ≡ true → (0 < length w) × (all_digits w ≡ true)
 parts w some =

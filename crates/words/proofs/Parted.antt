@@ -1,12 +1,10 @@
 -- The words of a line, one after another.
 use Rattle.std.proofs.Common.{◌≡◌, ℕ, suc, ◌+◌, ◌<◌, ◌≤◌, Bool, true, false, not, List, [], ◌∷◌, length, take, drop, sym, refl, ap, ◌∙◌, inl, inr, ◌⊎◌, one-add, arith}
 use Rattle.std.specs.List.{prefix_len}
-use Rattle.std.proofs.lemmas.Bool.{cases_eq, cond-true, cond-false}
+use Rattle.std.proofs.lemmas.Bool.{cases_Bool, cases_eq, cond-true, cond-false}
+use Rattle.std.proofs.lemmas.List.{nil_from_length}
 use Rattle.words.specs.Pieces.{blank, no_blank, piece, after, first_word, behind_word, words, goes_on, on_first}
-
-either : (b : Bool) → (b ≡ true) ⊎ (b ≡ false)
-either true = inl refl
-either false = inr refl
+use Rattle.words.proofs.Cut.{one_more}
 
 -- a blank in front is passed over
 module _ (c : ℕ) (cs : List ℕ) (dark : blank c ≡ true) where
@@ -43,16 +41,12 @@ module _ (c : ℕ) (cs : List ℕ) (light : blank c ≡ false) where
 ends_here : (d : ℕ) (ds : List ℕ) → blank d ≡ true → prefix_len (λ b. not (blank b)) (d ∷ ds) ≡ 0
 ends_here d ds dark = rw dark refl
 
-empty_is : (bs : List ℕ) → length bs ≡ 0 → bs ≡ []
-empty_is [] h = refl
-empty_is (c ∷ cs) h = absurd (omega arith)
-
 -- a line whose first word is empty has no words
 pub words_none : (line : List ℕ) → length (first_word line) ≡ 0 → words line ≡ []
 unfolding words
 words_none [] h = refl
 words_none (c ∷ cs) h =
-    elim (either (blank c)) [
+    elim (cases_Bool (blank c)) [
       | inl dark ↦ words_blank c cs dark ∙ words_none cs (ap (λ t. length (piece blank t)) (sym (past c cs dark)) ∙ h)
       | inr light ↦ absurd (omega (arith, ap length (first_on c cs light)))
     ]
@@ -60,7 +54,7 @@ words_none (c ∷ cs) h =
 cut_on : (c : ℕ) (cs : List ℕ) → blank c ≡ false → words (c ∷ cs) ≡ (c ∷ piece blank cs) ∷ words (after blank cs)
 cut_on c [] light = words_end c [] light refl
 cut_on c (d ∷ ds) light =
-    elim (either (blank d)) [
+    elim (cases_Bool (blank d)) [
       | inl dark ↦
           words_end c (d ∷ ds) light (ap not dark)
           ∙ sym (ap (λ n. (c ∷ take n (d ∷ ds)) ∷ words (drop n (d ∷ ds))) (ends_here d ds dark))
@@ -72,7 +66,7 @@ cut_on c (d ∷ ds) light =
 pub words_cut : (line : List ℕ) → 0 < length (first_word line) → words line ≡ first_word line ∷ words (behind_word line)
 words_cut [] h = absurd (omega arith)
 words_cut (c ∷ cs) h =
-    elim (either (blank c)) [
+    elim (cases_Bool (blank c)) [
       | inl dark ↦
           words_blank c cs dark
           ∙ words_cut cs (omega (arith, ap (λ t. length (piece blank t)) (past c cs dark)))
@@ -84,7 +78,7 @@ words_cut (c ∷ cs) h =
 pub words_empty : (line : List ℕ) → words line ≡ [] → first_word line ≡ []
 words_empty line h =
     elim (cases_eq (length (first_word line)) 0) [
-      | inl z ↦ empty_is (first_word line) z
+      | inl z ↦ nil_from_length (first_word line) z
       | inr some ↦ (let e : first_word line ∷ words (behind_word line) ≡ [] = sym (words_cut line (omega arith)) ∙ h in cc)
     ]
 
@@ -100,19 +94,14 @@ none : length (words []) ≤ 0
 unfolding words
 none = omega arith
 
--- a byte put before the first word makes at most one word more
-one_more : (c : ℕ) (ws : List (List ℕ)) → length (on_first c ws) ≤ length ws + 1
-one_more c [] = omega arith
-one_more c (w ∷ ws) = omega arith
-
 -- a line has no more words than bytes
 pub words_few : (line : List ℕ) → length (words line) ≤ length line
 words_few [] = none
 words_few (c ∷ cs) =
-    elim (either (blank c)) [
+    elim (cases_Bool (blank c)) [
       | inl dark ↦ omega (arith, ap length (words_blank c cs dark), words_few cs)
       | inr light ↦
-          elim (either (goes_on cs)) [
+          elim (cases_Bool (goes_on cs)) [
             | inl on ↦ omega (arith, ap length (words_on c cs light on), one_more c (words cs), words_few cs)
             | inr off ↦ omega (arith, ap length (words_end c cs light off), words_few cs)
           ]

@@ -3,7 +3,7 @@ ghost use Rattle.std.specs.Prelude.{◌≡◌, ◌∷◌, [], ◌<◌, ℕ, Bool
 ghost use Rattle.std.specs.Str.{bytes_eq};
 ghost use Rattle.words.specs.Pieces.{blank, Tests, piece, after, first_line, behind_line, bare, first_word, behind_word};
 
-// Cuts a text at the first byte that ends a piece: the piece, and what is left from that byte on.
+// Cuts a text at the first byte that ends a piece: the piece, and what is left from that byte on. Either may be empty.
 fn cut<F: FnMut(&u8) -> bool>(text: &[u8], ends: F) -> (&[u8], &[u8])
     requires { F.IsAlwaysCallable ends }
     ensures front { (p : ℕ → Bool) → Tests F.FnMut p ends → result.0.now ≡ piece p text.now }
@@ -20,7 +20,7 @@ fn is_blank(byte: &u8) -> bool
     matches!(*byte, b' ' | b'\t' | b'\r')
 }
 
-// The first line of a text, and what is behind its line feed.
+// The first line of a text, and what is behind its line feed. No Option: a text always has a first line, which may be empty.
 pub fn next_line(text: &[u8]) -> (&[u8], &[u8])
     ensures front { result.0.now ≡ first_line text.now }
     ensures back { result.1.now ≡ behind_line text.now }
@@ -52,7 +52,7 @@ pub fn next_word(line: &[u8]) -> Option<(&[u8], &[u8])>
     }
 }
 
-// Whether a word is this one.
+// Whether a word is this one: `word == b"close".as_slice()` in its place would be no plainer at each of a dozen calls.
 pub fn is_word(word: &[u8], name: &[u8]) -> bool
     ensures { result ≡ bytes_eq word.now name.now }
 {

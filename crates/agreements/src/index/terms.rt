@@ -22,7 +22,7 @@ impl Factor {
         }
     }
 
-    // A due under the factor, or the greatest number where it is more.
+    // A due under the factor, or the greatest number where it is more: that is past the ceiling all the same.
     fn scale(self, due: u64) -> u64
         ensures { result ≡ capped (scaled self.ppm due) }
     {

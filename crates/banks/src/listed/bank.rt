@@ -27,6 +27,7 @@ impl<T: Agreement> Bank for Listed<T> {
     ghost lawful = { λ b k r. lawful_row T.Agreement.meaning b.list.items k r (λ x. T.Agreement.lawful x r) };
 
     fn places(&self) -> u8 {
+        // There are 32 at most.
         self.list.len() as u8
     }
 
