@@ -10,9 +10,8 @@ mod source;
 
 use crate::arguments::{Command, USAGE, asked};
 use crate::failure::Failure;
-use crate::opening::open_all;
 use crate::running::perform_list;
-use crate::source::{Source, read_text};
+use crate::source::Source;
 use banks::Bank;
 use journal::{Journal, Market};
 use methodology::{ThreeIntervals, TwoIntervals};
@@ -35,8 +34,8 @@ fn start(rt: &HostRuntime) -> Result<(), Failure> {
     let _ = args.next();
     let words: Vec<String> = args.collect(rt.alloc())?;
     match asked(words.as_slice()) {
-        Some(Command::Run(path)) => run(rt, path),
-        Some(Command::Check(path)) => check(rt, path),
+        Some(Command::Run(path)) => run(rt, &Source::read(rt, path)?),
+        Some(Command::Check(path)) => check(rt, &Source::read(rt, path)?),
         Some(Command::Help) => {
             print!(rt; "{USAGE}")?;
             Ok(())
@@ -50,19 +49,14 @@ fn start(rt: &HostRuntime) -> Result<(), Failure> {
 
 // Performs a journal's calls and prints what came of each. The whole journal is read and its meter files are opened
 // before the first call.
-fn run(rt: &HostRuntime, path: &str) -> Result<(), Failure> {
-    let text = read_text(rt, path)?;
-    let source = Source {
-        path,
-        text: text.as_str(),
-    };
+fn run(rt: &HostRuntime, source: &Source<'_>) -> Result<(), Failure> {
     let Journal {
         market,
         serial,
         stations,
         entries,
     } = source.journal(rt)?;
-    let list = open_all(rt, source, &entries)?;
+    let list = source.open_all(rt, &entries)?;
     match market {
         Market::Three => perform_list(rt, ThreeIntervals, stations, serial, &list),
         Market::Two => perform_list(rt, TwoIntervals, stations, serial, &list),
@@ -70,14 +64,9 @@ fn run(rt: &HostRuntime, path: &str) -> Result<(), Failure> {
 }
 
 // Says whether a journal can be read and its meter files opened. No call is performed.
-fn check(rt: &HostRuntime, path: &str) -> Result<(), Failure> {
-    let text = read_text(rt, path)?;
-    let source = Source {
-        path,
-        text: text.as_str(),
-    };
+fn check(rt: &HostRuntime, source: &Source<'_>) -> Result<(), Failure> {
     let journal = source.journal(rt)?;
-    let list = open_all(rt, source, &journal.entries)?;
+    let list = source.open_all(rt, &journal.entries)?;
     let stations = Counted {
         count: usize::from(journal.stations.places()),
         noun: "station",
@@ -86,6 +75,7 @@ fn check(rt: &HostRuntime, path: &str) -> Result<(), Failure> {
         count: list.entries.len(),
         noun: "call",
     };
+    let path = source.path;
     println!(rt; "{path}: {stations}, {calls}")?;
     Ok(())
 }

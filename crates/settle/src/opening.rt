@@ -22,58 +22,56 @@ pub struct List {
     pub entries: Vec<Option<RefusedFile>>,
 }
 
-// Opens every entry, or says of the first meter file that cannot be opened why not.
-pub fn open_all(
-    rt: &HostRuntime,
-    source: Source<'_>,
-    entries: &[Entry<'_>],
-) -> Result<List, Failure> {
-    let mut list = List {
-        calls: Vec::with_capacity(rt.alloc(), entries.len())?,
-        entries: Vec::with_capacity(rt.alloc(), entries.len())?,
-    };
-    for entry in entries {
-        match open(rt, source, entry)? {
-            Ok(call) => {
-                list.calls.push(call)?;
-                list.entries.push(None)?;
+impl Source<'_> {
+    // Opens every entry, or says of the first meter file that cannot be opened why not.
+    pub fn open_all(&self, rt: &HostRuntime, entries: &[Entry<'_>]) -> Result<List, Failure> {
+        let mut list = List {
+            calls: Vec::with_capacity(rt.alloc(), entries.len())?,
+            entries: Vec::with_capacity(rt.alloc(), entries.len())?,
+        };
+        for entry in entries {
+            match self.open(rt, entry)? {
+                Ok(call) => {
+                    list.calls.push(call)?;
+                    list.entries.push(None)?;
+                }
+                Err(file) => list.entries.push(Some(file))?,
             }
-            Err(file) => list.entries.push(Some(file))?,
         }
+        Ok(list)
     }
-    Ok(list)
-}
 
-// The call of an entry, or its meter file's refusal. A failure is another matter: the file cannot be opened.
-fn open(
-    rt: &HostRuntime,
-    source: Source<'_>,
-    entry: &Entry<'_>,
-) -> Result<Result<Call, RefusedFile>, Failure> {
-    let line = entry.line;
-    let call = match entry.request {
-        Request::Year(revenues) => Call::Year(revenues),
-        Request::Tariff(filing) => Call::Tariff(filing),
-        Request::Meter(name) => {
-            let bytes = source.read_beside(rt, line, name)?;
-            return Ok(reading_of(&bytes, Verb::Meter).map(Call::Meter));
-        }
-        Request::Deliver(name) => {
-            let bytes = source.read_beside(rt, line, name)?;
-            return Ok(reading_of(&bytes, Verb::Deliver).map(Call::Deliver));
-        }
-        Request::Close {
-            readings,
-            deliveries,
-        } => Call::Close(Stated {
-            readings,
-            deliveries,
-        }),
-        Request::Draw(place) => Call::Draw(place),
-        Request::Release(order) => Call::Present(Spending::Release, Named::Drawn(order)),
-        Request::Hold(order) => Call::Present(Spending::Hold, Named::Drawn(order)),
-    };
-    Ok(Ok(call))
+    // The call of an entry, or its meter file's refusal. A failure is another matter: the file cannot be opened.
+    fn open(
+        &self,
+        rt: &HostRuntime,
+        entry: &Entry<'_>,
+    ) -> Result<Result<Call, RefusedFile>, Failure> {
+        let line = entry.line;
+        let call = match entry.request {
+            Request::Year(revenues) => Call::Year(revenues),
+            Request::Tariff(filing) => Call::Tariff(filing),
+            Request::Meter(name) => {
+                let bytes = self.read_beside(rt, line, name)?;
+                return Ok(reading_of(&bytes, Verb::Meter).map(Call::Meter));
+            }
+            Request::Deliver(name) => {
+                let bytes = self.read_beside(rt, line, name)?;
+                return Ok(reading_of(&bytes, Verb::Deliver).map(Call::Deliver));
+            }
+            Request::Close {
+                readings,
+                deliveries,
+            } => Call::Close(Stated {
+                readings,
+                deliveries,
+            }),
+            Request::Draw(place) => Call::Draw(place),
+            Request::Release(order) => Call::Present(Spending::Release, Named::Drawn(order)),
+            Request::Hold(order) => Call::Present(Spending::Hold, Named::Drawn(order)),
+        };
+        Ok(Ok(call))
+    }
 }
 
 // The reading of a meter file, or the file's refusal.

@@ -7,40 +7,47 @@ use printout::Printer;
 use statement::statement;
 use stations::Stations;
 
-// Prints the line of each entry, in the order of the journal.
-pub fn print_lines<M: Methodology>(
-    rt: &HostRuntime,
-    list: &List,
-    performance: &Performance<Stations, M>,
-) -> Result<(), Failure> {
-    let mut printer = Printer::new();
-    let mut performed = list.calls.iter().zip(performance.answers.iter());
-    for entry in &list.entries {
-        if let Some(file) = entry {
-            let line = printer.file_line(file.verb, file.refusal);
-            println!(rt; "{line}")?;
-        } else if let Some((call, answer)) = performed.next() {
-            printer.print(rt, call, answer)?;
-        }
-    }
-    Ok(())
+// A journal's list, what was performed of it, and how many places the market has.
+#[derive(Drop)]
+pub struct Outcome<'a, M> {
+    pub list: &'a List,
+    pub performance: &'a Performance<Stations, M>,
+    pub places: u8,
 }
 
-// Prints the books: the account over the closed months, and the money of each of the market's places.
-pub fn print_books<M: Methodology>(
-    rt: &HostRuntime,
-    list: &List,
-    performance: &Performance<Stations, M>,
-    places: u8,
-) -> Result<(), Failure> {
-    let Some(books) = statement(&list.calls, performance) else {
-        eprintln!(rt; "settle: there are too many calls to be added up")?;
-        return Err(Failure::Told);
-    };
-    let account = books.account;
-    println!(rt; "{account}")?;
-    for (place, money) in (1..=places).zip(books.places.iter()) {
-        println!(rt; "place {place} {money}")?;
+impl<'a, M: Methodology> Outcome<'a, M> {
+    // Prints the lines and then the books.
+    pub fn print(&self, rt: &HostRuntime) -> Result<(), Failure> {
+        self.print_lines(rt)?;
+        self.print_books(rt)
     }
-    Ok(())
+
+    // Prints the line of each entry, in the order of the journal.
+    fn print_lines(&self, rt: &HostRuntime) -> Result<(), Failure> {
+        let mut printer = Printer::new();
+        let mut performed = self.list.calls.iter().zip(self.performance.answers.iter());
+        for entry in &self.list.entries {
+            if let Some(file) = entry {
+                let line = printer.file_line(file.verb, file.refusal);
+                println!(rt; "{line}")?;
+            } else if let Some((call, answer)) = performed.next() {
+                printer.print(rt, call, answer)?;
+            }
+        }
+        Ok(())
+    }
+
+    // Prints the books: the account over the closed months, and the money of each of the market's places.
+    fn print_books(&self, rt: &HostRuntime) -> Result<(), Failure> {
+        let Some(books) = statement(&self.list.calls, self.performance) else {
+            eprintln!(rt; "settle: there are too many calls to be added up")?;
+            return Err(Failure::Told);
+        };
+        let account = books.account;
+        println!(rt; "{account}")?;
+        for (place, money) in (1..=self.places).zip(books.places.iter()) {
+            println!(rt; "place {place} {money}")?;
+        }
+        Ok(())
+    }
 }

@@ -5,27 +5,27 @@ use std::alloc::AllocError;
 use std::fs;
 use std::path::Path;
 
-#[derive(Clone, Copy)]
+#[derive(Drop)]
 pub struct Source<'a> {
     pub path: &'a str,
-    pub text: &'a str,
-}
-
-// The text of a file.
-// `meterfile` says this of each of its files by one function, which also tells refusals: a shared one would be no plainer.
-pub fn read_text(rt: &HostRuntime, path: &str) -> Result<String, Failure> {
-    match fs::read_to_string(rt, path) {
-        Ok(text) => Ok(text),
-        Err(error) => {
-            eprintln!(rt; "{path}: {error}")?;
-            Err(Failure::Told)
-        }
-    }
+    pub text: String,
 }
 
 impl<'a> Source<'a> {
+    // The file at a path, or a message.
+    // `meterfile` says this of each of its files by one function, which also tells refusals: a shared one would be no plainer.
+    pub fn read(rt: &HostRuntime, path: &'a str) -> Result<Source<'a>, Failure> {
+        match fs::read_to_string(rt, path) {
+            Ok(text) => Ok(Source { path, text }),
+            Err(error) => {
+                eprintln!(rt; "{path}: {error}")?;
+                Err(Failure::Told)
+            }
+        }
+    }
+
     // The journal, or a message on the first line that cannot be read.
-    pub fn journal(self, rt: &HostRuntime) -> Result<Journal<'a>, Failure> {
+    pub fn journal(&self, rt: &HostRuntime) -> Result<Journal<'_>, Failure> {
         match parse_journal(rt.alloc(), self.text.as_bytes()) {
             Ok(journal) => Ok(journal),
             Err(Unread::NoMemory) => Err(Failure::from(AllocError)),
@@ -39,7 +39,7 @@ impl<'a> Source<'a> {
 
     // The bytes of a file that a line names, whose path is relative to the journal's own folder; or a message.
     pub fn read_beside(
-        self,
+        &self,
         rt: &HostRuntime,
         line: usize,
         name: &[u8],
@@ -62,7 +62,7 @@ impl<'a> Source<'a> {
 
     // Prints the line that a message is about, under the message.
     // `meterfile` has it too: a shared one would be a library's function with a contract, longer than these two.
-    fn show_line(self, rt: &HostRuntime, line: usize) -> Failure {
+    fn show_line(&self, rt: &HostRuntime, line: usize) -> Failure {
         if let Some(wrong) = self.text.lines().nth(line.saturating_sub(1))
             && let Err(error) = eprintln!(rt; "    {wrong}")
         {
