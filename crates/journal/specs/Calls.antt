@@ -1,6 +1,5 @@
 -- The lines of a journal that say what the house is asked to do.
-use Rattle.std.specs.Prelude.{◌≡◌, ℕ, ◌+◌, List, [], ◌∷◌, Ok, Err, Result, codes, slice_index, nat_le, if◌then◌else◌}
-use Rattle.std.specs.Str.{bytes_eq}
+use Rattle.std.specs.Prelude.{◌≡◌, ℕ, ◌+◌, List, [], ◌∷◌, Some, None, Option, Ok, Err, Result, slice_index, nat_le}
 use Rattle.std.specs.Borrow.{Bor}
 use Rattle.tariffs.specs.declared.row.Row.{Row}
 use Rattle.tariffs.specs.declared.filing.Filing.{Filing}
@@ -12,6 +11,9 @@ use Rattle.journal.specs.declared.expected.Expected.{Expected}
 use Rattle.journal.specs.declared.expected.Expected.TheVariants.{FileName, Most}
 use Rattle.journal.specs.Chain.{◌>>=◌, must}
 use Rattle.journal.specs.Fields.{Words, field, single, ended}
+use Rattle.journal.specs.declared.verb.Verb.{Verb}
+use Rattle.journal.specs.declared.verb.Verb.TheVariants.{Year as YearVerb, Tariff as TariffVerb, Meter as MeterVerb, Deliver as DeliverVerb, Close as CloseVerb, Draw as DrawVerb, Release as ReleaseVerb, Hold as HoldVerb}
+use Rattle.journal.specs.Verbs.{verb_of}
 use Rattle.journal.specs.Headings.{revenues_of, intervals_of}
 
 -- what the house is asked to do
@@ -111,16 +113,22 @@ release_of ws = whole release_order (single Release ws)
 unfoldable pub hold_of : Words → Result Call Expected
 hold_of ws = whole hold_order (single Hold ws)
 
+-- what a line says that begins with a verb
+abbrev pub by_verb : Verb → Market → List ℕ → Words → Result Call Expected
+by_verb YearVerb market w ws = year_of market (w ∷ ws)
+by_verb TariffVerb market w ws = tariff_of market ws
+by_verb MeterVerb market w ws = meter_of ws
+by_verb DeliverVerb market w ws = deliver_of ws
+by_verb CloseVerb market w ws = close_of (w ∷ ws)
+by_verb DrawVerb market w ws = draw_of (w ∷ ws)
+by_verb ReleaseVerb market w ws = release_of (w ∷ ws)
+by_verb HoldVerb market w ws = hold_of (w ∷ ws)
+
+abbrev pub by_first : Option Verb → Market → Expected → List ℕ → Words → Result Call Expected
+by_first None market other w ws = Err other
+by_first (Some verb) market other w ws = by_verb verb market w ws
+
 -- a call by its first word; where it begins as none does, the other was expected
 unfoldable pub request_of : Market → Expected → Words → Result Call Expected
 request_of market other [] = Err other
-request_of market other (w ∷ ws) =
-    if bytes_eq w (codes "year") then year_of market (w ∷ ws)
-    else (if bytes_eq w (codes "tariff") then tariff_of market ws
-    else (if bytes_eq w (codes "meter") then meter_of ws
-    else (if bytes_eq w (codes "deliver") then deliver_of ws
-    else (if bytes_eq w (codes "close") then close_of (w ∷ ws)
-    else (if bytes_eq w (codes "draw") then draw_of (w ∷ ws)
-    else (if bytes_eq w (codes "release") then release_of (w ∷ ws)
-    else (if bytes_eq w (codes "hold") then hold_of (w ∷ ws)
-    else Err other)))))))
+request_of market other (w ∷ ws) = by_first (verb_of w) market other w ws

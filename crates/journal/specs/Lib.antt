@@ -2,6 +2,7 @@ pub mod Names
 pub mod Chain
 pub mod Fields
 pub mod Headings
+pub mod Verbs
 pub mod Calls
 pub mod Places
 pub mod Lines

@@ -6,6 +6,7 @@ use Rattle.stations.specs.declared.figures.Figures.{Figures}
 use Rattle.stations.specs.declared.figures.Figures.TheVariants.{TwoPart, Quota}
 use Rattle.stations.specs.Figures.{figured, figures_fit}
 use Rattle.stations.specs.Layers.{layered}
+use Rattle.journal.specs.declared.name.Name.{Name}
 use Rattle.journal.specs.declared.name.Name.TheVariants.{Contracted, Capacity, Energy, Kwh, First, Second, Index}
 use Rattle.journal.specs.declared.expected.Expected.{Expected}
 use Rattle.journal.specs.declared.expected.Expected.TheVariants.{Agreement, TwoPartLimits, QuotaLimits}
@@ -20,21 +21,25 @@ Gives meaning said (Ok x) = said ≡ Ok (meaning x)
 Gives meaning said (Err (Lacks e)) = said ≡ Err e
 Gives meaning said (Err NoMemory) = Unit {0}
 
+-- three fields of one figure each
+unfoldable pub three_of : Name → Name → Name → Words → Result ((ℕ × ℕ × ℕ) × Words) Expected
+three_of first second third ws = do
+  (a, ws) ← single first ws
+  (b, ws) ← single second ws
+  (c, ws) ← single third ws
+  Ok ((a, b, c), ws)
+
 -- `contracted 100 capacity 20000 energy 50000`
 unfoldable pub two_part_of : Words → Result (Figures × Words) Expected
 two_part_of ws = do
-  (contracted, ws) ← single Contracted ws
-  (capacity, ws) ← single Capacity ws
-  (energy, ws) ← single Energy ws
-  Ok (TwoPart contracted capacity energy, ws)
+  (f, ws) ← three_of Contracted Capacity Energy ws
+  Ok (TwoPart f.0 f.1 f.2, ws)
 
 -- `kwh 25 first 60000 second 40000`
 unfoldable pub quota_of : Words → Result (Figures × Words) Expected
 quota_of ws = do
-  (kwh, ws) ← single Kwh ws
-  (first, ws) ← single First ws
-  (second, ws) ← single Second ws
-  Ok (Quota kwh first second, ws)
+  (f, ws) ← three_of Kwh First Second ws
+  Ok (Quota f.0 f.1 f.2, ws)
 
 unfoldable pub figures_of : Words → Result (Figures × Words) Expected
 figures_of [] = Err Agreement

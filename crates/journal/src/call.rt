@@ -8,8 +8,9 @@ use crate::expected::Expected;
 use crate::field::{ended, field, single};
 use crate::market::Market;
 use crate::name::Name;
+use crate::verb::Verb;
 use tariffs::{Filing, Row};
-use words::{Words, is_word};
+use words::Words;
 
 // What the house is asked to do. Meter files are given by their names, orders by the order of their draws.
 #[derive(Clone, Copy)]
@@ -31,49 +32,6 @@ fn file<'a>(words: &mut Words<'a>) -> Result<&'a [u8], Expected>
     words.next().ok_or(Expected::FileName)
 }
 
-// Takes what a tariff files.
-#[tactic(auto, unfolding(crate::specs::Calls::filing_of))]
-fn filing(words: &mut Words, market: Market) -> Result<Filing, Expected>
-    ensures { Takes (filing_of market (left words.old)) result (left words.new) }
-{
-    let costs = field(words, Name::Costs, 1 + market.revenues())?;
-    let peaks = single(words, Name::Peaks)?;
-    let energy_cost = single(words, Name::Energy)?;
-    let sent = single(words, Name::Sent)?;
-    let delivered = field(words, Name::Delivered, market.intervals())?;
-    let factors = field(words, Name::Losses, market.intervals())?;
-    let coefficients = field(words, Name::Coefficients, market.intervals())?;
-    let interest = single(words, Name::Interest)?;
-    Ok(Filing {
-        costs,
-        peaks,
-        energy_cost,
-        sent,
-        delivered,
-        factors,
-        coefficients,
-        interest,
-    })
-}
-
-#[tactic(auto, unfolding(crate::specs::Calls::year_of))]
-fn year<'a>(mut words: Words<'a>, market: Market) -> Result<Request<'a>, Expected>
-    ensures { Tells (year_of market (left words.entry)) result }
-{
-    let revenues = field(&mut words, Name::Year, market.revenues())?;
-    ended(words)?;
-    Ok(Request::Year(revenues))
-}
-
-#[tactic(auto, unfolding(crate::specs::Calls::tariff_of))]
-fn tariff<'a>(mut words: Words<'a>, market: Market) -> Result<Request<'a>, Expected>
-    ensures { Tells (tariff_of market (left words.entry)) result }
-{
-    let filing = filing(&mut words, market)?;
-    ended(words)?;
-    Ok(Request::Tariff(filing))
-}
-
 // Reads a line that names a meter file and no more.
 fn meter_file<'a>(mut words: Words<'a>) -> Result<&'a [u8], Expected>
     ensures { TellsName (alone (file_of (left words.entry))) result }
@@ -89,6 +47,7 @@ fn close<'a>(mut words: Words<'a>) -> Result<Request<'a>, Expected>
 {
     let counts = field(&mut words, Name::Close, 2)?;
     ended(words)?;
+    // `as` loses nothing, here and below: Rust has no `From` between `u64` and `usize`, and both have 64 bits.
     Ok(Request::Close {
         readings: counts.figures[0] as usize,
         deliveries: counts.figures[1] as usize,
@@ -116,41 +75,75 @@ fn order(mut words: Words, name: Name) -> Result<usize, Expected>
 {
     let order = single(&mut words, name)?;
     ended(words)?;
-    // `as` loses nothing: Rust has no `From` between `u64` and `usize`.
     Ok(order as usize)
 }
 
-// Reads a call; the other is what was expected where the line begins as none does.
-#[tactic(auto, unfolding(crate::specs::Calls::request_of, crate::specs::Calls::meter_of, crate::specs::Calls::deliver_of, crate::specs::Calls::release_of, crate::specs::Calls::hold_of))]
-pub fn read_request<'a>(
-    words: Words<'a>,
-    market: Market,
-    other: Expected,
-) -> Result<Request<'a>, Expected>
-    ensures { Tells (request_of market other (left words.entry)) result }
-{
-    let mut behind = words;
-    let Some(verb) = behind.next() else {
-        return Err(other);
-    };
-    // No `match`: the proof of its last arm did not close, whose bytes give 40 cases.
-    if is_word(verb, b"year") {
-        year(words, market)
-    } else if is_word(verb, b"tariff") {
-        tariff(behind, market)
-    } else if is_word(verb, b"meter") {
-        Ok(Request::Meter(meter_file(behind)?))
-    } else if is_word(verb, b"deliver") {
-        Ok(Request::Deliver(meter_file(behind)?))
-    } else if is_word(verb, b"close") {
-        close(words)
-    } else if is_word(verb, b"draw") {
-        draw(words)
-    } else if is_word(verb, b"release") {
-        Ok(Request::Release(order(words, Name::Release)?))
-    } else if is_word(verb, b"hold") {
-        Ok(Request::Hold(order(words, Name::Hold)?))
-    } else {
-        Err(other)
+impl Market {
+    // Takes what a tariff files.
+    #[tactic(auto, unfolding(crate::specs::Calls::filing_of))]
+    fn filing(self, words: &mut Words) -> Result<Filing, Expected>
+        ensures { Takes (filing_of self (left words.old)) result (left words.new) }
+    {
+        let shape = self.shape();
+        let costs = field(words, Name::Costs, 1 + shape.revenues)?;
+        let peaks = single(words, Name::Peaks)?;
+        let energy_cost = single(words, Name::Energy)?;
+        let sent = single(words, Name::Sent)?;
+        let delivered = field(words, Name::Delivered, shape.intervals)?;
+        let factors = field(words, Name::Losses, shape.intervals)?;
+        let coefficients = field(words, Name::Coefficients, shape.intervals)?;
+        let interest = single(words, Name::Interest)?;
+        Ok(Filing {
+            costs,
+            peaks,
+            energy_cost,
+            sent,
+            delivered,
+            factors,
+            coefficients,
+            interest,
+        })
+    }
+
+    #[tactic(auto, unfolding(crate::specs::Calls::year_of))]
+    fn year<'a>(self, mut words: Words<'a>) -> Result<Request<'a>, Expected>
+        ensures { Tells (year_of self (left words.entry)) result }
+    {
+        let revenues = field(&mut words, Name::Year, self.shape().revenues)?;
+        ended(words)?;
+        Ok(Request::Year(revenues))
+    }
+
+    #[tactic(auto, unfolding(crate::specs::Calls::tariff_of))]
+    fn tariff<'a>(self, mut words: Words<'a>) -> Result<Request<'a>, Expected>
+        ensures { Tells (tariff_of self (left words.entry)) result }
+    {
+        let filing = self.filing(&mut words)?;
+        ended(words)?;
+        Ok(Request::Tariff(filing))
+    }
+
+    // Reads a call; the other is what was expected where the line begins as none does.
+    #[tactic(auto, unfolding(crate::specs::Calls::request_of, crate::specs::Calls::meter_of, crate::specs::Calls::deliver_of, crate::specs::Calls::release_of, crate::specs::Calls::hold_of))]
+    pub fn request<'a>(self, words: Words<'a>, other: Expected) -> Result<Request<'a>, Expected>
+        ensures { Tells (request_of self other (left words.entry)) result }
+    {
+        let mut behind = words;
+        let Some(word) = behind.next() else {
+            return Err(other);
+        };
+        let Some(verb) = Verb::of(word) else {
+            return Err(other);
+        };
+        match verb {
+            Verb::Year => self.year(words),
+            Verb::Tariff => self.tariff(behind),
+            Verb::Meter => Ok(Request::Meter(meter_file(behind)?)),
+            Verb::Deliver => Ok(Request::Deliver(meter_file(behind)?)),
+            Verb::Close => close(words),
+            Verb::Draw => draw(words),
+            Verb::Release => Ok(Request::Release(order(words, Name::Release)?)),
+            Verb::Hold => Ok(Request::Hold(order(words, Name::Hold)?)),
+        }
     }
 }

@@ -3,7 +3,7 @@ ghost use Rattle.std.specs.Prelude.{◌≡◌};
 ghost use Rattle.words.specs.Pieces.{left};
 ghost use Rattle.journal.specs.Lines.{Turns, saying, blank, others, with_station, with_call, with_words};
 
-use crate::call::{Request, read_request};
+use crate::call::Request;
 use crate::expected::{Expected, Unreadable};
 use crate::market::{Heading, Market, read_heading};
 use crate::station::read_station;
@@ -21,6 +21,8 @@ pub struct Entry<'a> {
 
 #[derive(Drop)]
 pub struct Draft<'a> {
+    // what the stations are allocated from
+    heap: Global,
     // what the market's line has said
     pub heading: Option<Heading>,
     pub stations: Stations,
@@ -33,6 +35,7 @@ impl<'a> Draft<'a> {
         ensures { saying result ≡ blank }
     {
         Draft {
+            heap,
             heading: None,
             stations: Stations::new(heap),
             entries: Vec::new(heap),
@@ -52,10 +55,10 @@ impl<'a> Draft<'a> {
 
     // A station's line, behind the word that begins it.
     #[tactic(auto, unfolding(crate::specs::Lines::with_station))]
-    fn add_station(&mut self, heap: Global, words: Words) -> Result<(), Unreadable>
+    fn add_station(&mut self, words: Words) -> Result<(), Unreadable>
         ensures { Turns (with_station (saying self.old) (left words.entry)) result (saying self.new) }
     {
-        let station = read_station(heap, words)?;
+        let station = read_station(self.heap, words)?;
         match self.stations.push(station) {
             Ok(()) => Ok(()),
             Err(Unplaced::Full(_)) => Err(Unreadable::Lacks(Expected::NoStation)),
@@ -68,19 +71,14 @@ impl<'a> Draft<'a> {
     fn add_call(&mut self, market: Market, line: usize, words: Words<'a>) -> Result<(), Unreadable>
         ensures { Turns (with_call (saying self.old) market line (left words.entry)) result (saying self.new) }
     {
-        let request = read_request(words, market, self.others())?;
+        let request = market.request(words, self.others())?;
         self.entries.push(Entry { line, request })?;
         Ok(())
     }
 
     // One more line, by its number and its words.
     #[tactic(auto, unfolding(crate::specs::Lines::with_words, crate::specs::Lines::with_heading))]
-    pub fn add_line(
-        &mut self,
-        heap: Global,
-        line: usize,
-        words: Words<'a>,
-    ) -> Result<(), Unreadable>
+    pub fn add_line(&mut self, line: usize, words: Words<'a>) -> Result<(), Unreadable>
         ensures { Turns (with_words (saying self.old) line (left words.entry)) result (saying self.new) }
     {
         let mut behind = words;
@@ -93,7 +91,7 @@ impl<'a> Draft<'a> {
             return Ok(());
         };
         if is_word(first, b"station") && self.entries.is_empty() {
-            self.add_station(heap, behind)
+            self.add_station(behind)
         } else {
             self.add_call(heading.market, line, words)
         }

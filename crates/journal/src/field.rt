@@ -20,6 +20,7 @@ pub fn keyword(words: &mut Words, text: &str, expected: Expected) -> Result<(), 
 }
 
 // Takes a name.
+// Functions, here and below, and no struct of the two: `Words` is another crate's, and the name is another at each call.
 #[tactic(auto, unfolding(crate::specs::Fields::named))]
 pub fn named(words: &mut Words, name: Name) -> Result<(), Expected>
     ensures { Passes (named name (left words.old)) result (left words.new) }

@@ -12,6 +12,7 @@ pub mod parse;
 mod station;
 #[cfg(test)]
 mod tests;
+mod verb;
 
 pub use call::Request;
 pub use draft::Entry;

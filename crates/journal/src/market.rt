@@ -7,7 +7,7 @@ ghost use Rattle.journal.specs.Headings.{revenues_of, intervals_of, begun, marke
 use crate::expected::Expected;
 use crate::field::{ended, keyword, single};
 use crate::name::Name;
-use methodology::{Methodology, ThreeIntervals, TwoIntervals};
+use methodology::{Methodology, Shape, ThreeIntervals, TwoIntervals};
 use words::Words;
 
 #[derive(Clone, Copy)]
@@ -17,23 +17,14 @@ pub enum Market {
 }
 
 impl Market {
-    // How many allowed revenues a year files.
-    pub fn revenues(self) -> usize
-        ensures { result ≡ revenues_of self }
+    // How many allowed revenues a year files, and how many intervals a day has.
+    pub fn shape(self) -> Shape
+        ensures revenues { result.revenues ≡ revenues_of self }
+        ensures intervals { result.intervals ≡ intervals_of self }
     {
         match self {
-            Market::Three => ThreeIntervals::REVENUES,
-            Market::Two => TwoIntervals::REVENUES,
-        }
-    }
-
-    // How many intervals a day has.
-    pub fn intervals(self) -> usize
-        ensures { result ≡ intervals_of self }
-    {
-        match self {
-            Market::Three => ThreeIntervals::INTERVALS,
-            Market::Two => TwoIntervals::INTERVALS,
+            Market::Three => ThreeIntervals::shape(),
+            Market::Two => TwoIntervals::shape(),
         }
     }
 }

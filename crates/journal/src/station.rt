@@ -3,7 +3,7 @@ ghost use Rattle.std.specs.Prelude.{◌≡◌, []};
 ghost use Rattle.stations.specs.Layers.{station_meaning};
 ghost use Rattle.words.specs.Pieces.{left};
 ghost use Rattle.journal.specs.Fields.{Takes};
-ghost use Rattle.journal.specs.Places.{Gives, two_part_of, quota_of, figures_of, layers, limits, station_of};
+ghost use Rattle.journal.specs.Places.{Gives, three_of, figures_of, layers, limits, station_of};
 
 use crate::expected::{Expected, Unreadable};
 use crate::field::single;
@@ -12,36 +12,24 @@ use stations::{Figures, Station};
 use std::alloc::Global;
 use words::Words;
 
-#[tactic(auto, unfolding(crate::specs::Places::two_part_of))]
-fn two_part(words: &mut Words) -> Result<Figures, Expected>
-    ensures { Takes (two_part_of (left words.old)) result (left words.new) }
+// Takes three fields of one figure each.
+#[tactic(auto, unfolding(crate::specs::Places::three_of))]
+fn three(
+    words: &mut Words,
+    first: Name,
+    second: Name,
+    third: Name,
+) -> Result<(u64, u64, u64), Expected>
+    ensures { Takes (three_of first second third (left words.old)) result (left words.new) }
 {
-    let contracted = single(words, Name::Contracted)?;
-    let capacity = single(words, Name::Capacity)?;
-    let energy = single(words, Name::Energy)?;
-    Ok(Figures::TwoPart {
-        contracted,
-        capacity,
-        energy,
-    })
-}
-
-#[tactic(auto, unfolding(crate::specs::Places::quota_of))]
-fn quota(words: &mut Words) -> Result<Figures, Expected>
-    ensures { Takes (quota_of (left words.old)) result (left words.new) }
-{
-    let quota = single(words, Name::Kwh)?;
-    let first = single(words, Name::First)?;
-    let second = single(words, Name::Second)?;
-    Ok(Figures::Quota {
-        quota,
-        first,
-        second,
-    })
+    let a = single(words, first)?;
+    let b = single(words, second)?;
+    let c = single(words, third)?;
+    Ok((a, b, c))
 }
 
 // Takes the kind of the agreement and its figures.
-#[tactic(auto, unfolding(crate::specs::Places::figures_of))]
+#[tactic(auto, unfolding(crate::specs::Places::figures_of, crate::specs::Places::two_part_of, crate::specs::Places::quota_of))]
 fn filed(words: &mut Words) -> Result<Figures, Expected>
     ensures { Takes (figures_of (left words.old)) result (left words.new) }
 {
@@ -49,8 +37,27 @@ fn filed(words: &mut Words) -> Result<Figures, Expected>
         return Err(Expected::Agreement);
     };
     match kind {
-        b"two-part" => two_part(words),
-        b"quota" => quota(words),
+        b"two-part" => {
+            let (contracted, capacity, energy) = three(
+                words,
+                Name::Contracted,
+                Name::Capacity,
+                Name::Energy,
+            )?;
+            Ok(Figures::TwoPart {
+                contracted,
+                capacity,
+                energy,
+            })
+        }
+        b"quota" => {
+            let (quota, first, second) = three(words, Name::Kwh, Name::First, Name::Second)?;
+            Ok(Figures::Quota {
+                quota,
+                first,
+                second,
+            })
+        }
         _ => Err(Expected::Agreement),
     }
 }
