@@ -3,7 +3,7 @@ ghost use Rattle.std.specs.Prelude.{◌≡◌, ◌+◌, ◌≤◌, ◌++◌, cod
 ghost use Rattle.methodology.specs.Names.{name};
 ghost use Rattle.arrayvec.specs.ArrayString.{array_string_len};
 ghost use Rattle.sheet.specs.Limits.{name_limit};
-ghost use Rattle.sheet.specs.Text.{month_line, head_line, licensee_line, margin_line};
+ghost use Rattle.sheet.specs.Text.{line_feed, month_line, head_line, licensee_line, margin_line};
 
 use accounts::{Billed, HeadLine};
 use arrayvec::ArrayString;
@@ -38,16 +38,24 @@ fn push_figure<const CAP: usize, I: Integer>(line: &mut ArrayString<CAP>, n: I)
     line.push_str(digits.format(n));
 }
 
+// The line of one figure behind the word that it begins with.
+fn line_of<const CAP: usize, I: Integer>(word: &str, figure: I) -> ArrayString<CAP>
+    requires { length word.now + 1 + I.MAX_STR_LEN + 1 ≤ CAP }
+    ensures { result.bytes ≡ word.now ++ ((codes " " ++ I.text figure) ++ line_feed) }
+{
+    let mut line = ArrayString::new();
+    line.push_str(word);
+    push_figure(&mut line, figure);
+    line.push_str("\n");
+    line
+}
+
 // The line of the month.
 #[tactic(auto, unfolding(crate::specs::Text::month_line))]
 pub fn month_line(month: u8) -> ArrayString<MONTH_LINE>
     ensures { result.bytes ≡ month_line month }
 {
-    let mut line = ArrayString::new();
-    line.push_str("month");
-    push_figure(&mut line, month);
-    line.push_str("\n");
-    line
+    line_of("month", month)
 }
 
 // Writes the name of a head, as its `Display` does. A `write!` of it has a contract for `Ok` alone, and none that says when
@@ -86,6 +94,7 @@ pub fn head_line(head: Head, line: &HeadLine) -> ArrayString<HEAD_LINE>
 }
 
 // The line of a licensee, or nothing where it has none.
+// Written out, as that of a head is: its figures are of several types, of which a slice can hold but one.
 #[tactic(auto, unfolding(crate::specs::Text::licensee_line))]
 pub fn licensee_line(number: usize, billed: &Option<Billed>) -> ArrayString<LICENSEE_LINE>
     ensures { result.bytes ≡ licensee_line number billed.now }
@@ -106,9 +115,5 @@ pub fn licensee_line(number: usize, billed: &Option<Billed>) -> ArrayString<LICE
 pub fn margin_line(margin: i64) -> ArrayString<MARGIN_LINE>
     ensures { result.bytes ≡ margin_line margin }
 {
-    let mut line = ArrayString::new();
-    line.push_str("margin");
-    push_figure(&mut line, margin);
-    line.push_str("\n");
-    line
+    line_of("margin", margin)
 }
