@@ -1,14 +1,7 @@
 // The calls of the quarter, those that are refused among them.
 use crate::market::{filing, sent, taken};
-use history::{Call, Named, Spending, Stated};
+use history::{Call, Named, Spending};
 use worked_figures::year;
-
-fn close(readings: usize, deliveries: usize) -> Call {
-    Call::Close(Stated {
-        readings,
-        deliveries,
-    })
-}
 
 fn release(which: Named) -> Call {
     Call::Present(Spending::Release, which)
@@ -38,10 +31,10 @@ fn first(calls: &mut Vec<Call>) -> anyhow::Result<()> {
     calls.push(Call::Meter(sent(3, 10, [5, 5, 5])?))?;
     calls.push(Call::Meter(sent(2, 40, [20, 30, 10])?))?;
     calls.push(Call::Deliver(taken(1, 90, [18, 28, 19])?))?;
-    calls.push(close(2, 2))?;
+    calls.push(Call::closing(2, 2))?;
     calls.push(Call::Deliver(taken(2, 50, [15, 25, 8])?))?;
     calls.push(Call::Deliver(taken(2, 50, [15, 25, 8])?))?;
-    calls.push(close(2, 2))?;
+    calls.push(Call::closing(2, 2))?;
     calls.push(Call::Draw(1))?;
     calls.push(release(Named::Drawn(1)))?;
     calls.push(release(Named::Drawn(1)))?;
@@ -55,7 +48,7 @@ fn second(calls: &mut Vec<Call>) -> anyhow::Result<()> {
     calls.push(Call::Meter(sent(1, 80, [10, 40, 20])?))?;
     calls.push(Call::Meter(sent(2, 40, [12, 20, 9])?))?;
     calls.push(Call::Deliver(taken(1, 70, [19, 55, 27])?))?;
-    calls.push(close(2, 1))?;
+    calls.push(Call::closing(2, 1))?;
     calls.push(Call::Draw(2))?;
     calls.push(hold(Named::Drawn(2)))?;
     calls.push(release(Named::Other(1)))?;
@@ -69,9 +62,9 @@ fn third(calls: &mut Vec<Call>) -> anyhow::Result<()> {
     calls.push(Call::Deliver(taken(1, 90, [25, 30, 0])?))?;
     calls.push(Call::Meter(sent(2, 45, [10, 15, 7])?))?;
     calls.push(Call::Meter(sent(1, 95, [18, 33, 16])?))?;
-    calls.push(close(2, 1))?;
+    calls.push(Call::closing(2, 1))?;
     calls.push(Call::Deliver(taken(2, 60, [2, 11, 21])?))?;
-    calls.push(close(2, 2))?;
+    calls.push(Call::closing(2, 2))?;
     calls.push(Call::Draw(1))?;
     calls.push(Call::Draw(2))?;
     calls.push(Call::Draw(2))?;

@@ -9,7 +9,7 @@ use crate::market::{Stations, stations};
 use agreements::TwoPart;
 use anyhow::anyhow;
 use banks::{Bank, One};
-use history::{Answer, Call, Performance, Unperformed, perform, perform_alone};
+use history::{Answer, Call, NewHouse, Performance, Unperformed};
 use house::House;
 use methodology::ThreeIntervals;
 use printout::Printer;
@@ -43,7 +43,12 @@ fn perform_quarter(
     mut other: Other,
     calls: &[Call],
 ) -> Result<(Quarter, Vec<Answer>), Unperformed> {
-    let outcome = perform(heap, bank, ThreeIntervals, SERIAL, calls, &mut other.hand);
+    let house = NewHouse {
+        bank,
+        methodology: ThreeIntervals,
+        serial: SERIAL,
+    };
+    let outcome = house.perform(heap, calls, &mut other.hand);
     let (_house, _answers) = other.hold_all();
     Ok(outcome?.hold_all())
 }
@@ -56,8 +61,12 @@ fn run(rt: &HostRuntime) -> anyhow::Result<()> {
     up_to_an_order(&mut other_calls)?;
     let bank = stations()?;
     let places = bank.places();
-    let station = One::new(agreement());
-    let other = perform_alone(heap, station, ThreeIntervals, OTHER_SERIAL, &other_calls)?;
+    let other = NewHouse {
+        bank: One::new(agreement()),
+        methodology: ThreeIntervals,
+        serial: OTHER_SERIAL,
+    };
+    let other = other.perform_alone(heap, &other_calls)?;
     let Ok((house, answers)) = perform_quarter(heap, bank, other, &calls) else {
         return Err(anyhow!("the calls are not performed"));
     };

@@ -1,3 +1,4 @@
+pub mod Answers
 pub mod Slots
 pub mod Bearing
 pub mod Presenting

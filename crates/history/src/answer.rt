@@ -1,4 +1,7 @@
 // What a call answered, in plain numbers.
+ghost use Rattle.std.specs.Prelude.{◌≡◌, option_map};
+ghost use Rattle.history.specs.Answers.{refusal_of, sheet_of};
+
 use accounts::Sheet;
 use ledger::Refusal;
 
@@ -19,4 +22,26 @@ pub enum Answer {
     Returned,
     // The order named was not there, and no call was made.
     Absent,
+}
+
+impl Answer {
+    // Why the call was refused, if it was.
+    pub fn refusal(&self) -> Option<Refusal>
+        ensures { result ≡ refusal_of self.now }
+    {
+        match self {
+            Answer::Refused(why) => Some(*why),
+            _ => None,
+        }
+    }
+
+    // The sheet on which the month was closed, if one was.
+    pub fn sheet(&self) -> Option<&Sheet>
+        ensures { option_map (λ s. s.now) result ≡ sheet_of self.now }
+    {
+        match self {
+            Answer::Closed(sheet) => Some(sheet),
+            _ => None,
+        }
+    }
 }

@@ -1,4 +1,6 @@
 // A call to make of a house.
+ghost use Rattle.std.specs.Prelude.{◌≡◌};
+
 use metering::Reading;
 use tariffs::{Filing, Row};
 
@@ -34,4 +36,16 @@ pub enum Call {
     Close(Stated),
     Draw(u8),
     Present(Spending, Named),
+}
+
+impl Call {
+    // Closing a month that must have so many readings and deliveries.
+    pub fn closing(readings: usize, deliveries: usize) -> Call
+        ensures { result ≡ Call.Close (record { readings = readings; deliveries = deliveries }) }
+    {
+        Call::Close(Stated {
+            readings,
+            deliveries,
+        })
+    }
 }

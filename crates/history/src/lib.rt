@@ -3,6 +3,7 @@
 
 pub mod answer;
 pub mod call;
+pub mod new_house;
 pub mod numbered;
 pub mod performing;
 pub mod presenting;
@@ -10,6 +11,6 @@ pub mod stepping;
 
 pub use answer::Answer;
 pub use call::{Call, Named, Spending, Stated};
+pub use new_house::NewHouse;
 pub use numbered::Orders;
-pub use performing::perform::{perform, perform_alone};
 pub use performing::{Performance, Unperformed};

@@ -13,58 +13,60 @@ use metering::index_of;
 use methodology::Methodology;
 use orders::{PayOrder, Returned};
 
-// Has the house take an order in, or gives it back.
-fn spend<B: Bank, M: Methodology>(
-    house: &mut House<B, M>,
-    order: PayOrder,
-    how: Spending,
-) -> Result<Answer, Returned>
-    ensures { Spends how (shows B.Bank M.Methodology house.old) order result (shows B.Bank M.Methodology house.new) }
-{
-    match how {
-        Spending::Release => {
-            let paid = house.release(order)?;
-            Ok(Answer::Paid(paid.place, paid.cents))
-        }
-        Spending::Hold => {
-            house.hold(order)?;
-            Ok(Answer::Accepted)
-        }
-    }
-}
-
-// Presents the order of a slot; one that is not the house's own is put back there.
-fn present_at<B: Bank, M: Methodology>(
-    house: &mut House<B, M>,
-    slot: &mut Option<PayOrder>,
-    how: Spending,
-) -> Answer
-    ensures { PresentsAt how slot.old (shows B.Bank M.Methodology house.old) result slot.new (shows B.Bank M.Methodology house.new) }
-{
-    let Some(order) = slot.take() else {
-        return Answer::Absent;
-    };
-    match spend(house, order, how) {
-        Ok(answer) => answer,
-        Err(Returned { order }) => {
-            *slot = Some(order);
-            Answer::Returned
+impl Spending {
+    // Has the house take an order in, or gives it back.
+    fn spend<B: Bank, M: Methodology>(
+        self,
+        house: &mut House<B, M>,
+        order: PayOrder,
+    ) -> Result<Answer, Returned>
+        ensures { Spends self (shows B.Bank M.Methodology house.old) order result (shows B.Bank M.Methodology house.new) }
+    {
+        match self {
+            Spending::Release => {
+                let paid = house.release(order)?;
+                Ok(Answer::Paid(paid.place, paid.cents))
+            }
+            Spending::Hold => {
+                house.hold(order)?;
+                Ok(Answer::Accepted)
+            }
         }
     }
-}
 
-// Presents the order with a number; one that is not the house's own stays where it was.
-pub fn present<B: Bank, M: Methodology>(
-    house: &mut House<B, M>,
-    orders: &mut Orders,
-    number: usize,
-    how: Spending,
-) -> Answer
-    ensures done { Presentation how number (slots_of orders.old) (shows B.Bank M.Methodology house.old) result (slots_of orders.new) (shows B.Bank M.Methodology house.new) }
-    ensures room { room_in orders.new ≡ room_in orders.old }
-{
-    match index_of(number, orders.slots.len()) {
-        Some(index) => present_at(house, &mut orders.slots[index], how),
-        None => Answer::Absent,
+    // Presents the order of a slot; one that is not the house's own is put back there.
+    fn present_at<B: Bank, M: Methodology>(
+        self,
+        house: &mut House<B, M>,
+        slot: &mut Option<PayOrder>,
+    ) -> Answer
+        ensures { PresentsAt self slot.old (shows B.Bank M.Methodology house.old) result slot.new (shows B.Bank M.Methodology house.new) }
+    {
+        let Some(order) = slot.take() else {
+            return Answer::Absent;
+        };
+        match self.spend(house, order) {
+            Ok(answer) => answer,
+            Err(Returned { order }) => {
+                *slot = Some(order);
+                Answer::Returned
+            }
+        }
+    }
+
+    // Presents the order with a number; one that is not the house's own stays where it was.
+    pub fn present<B: Bank, M: Methodology>(
+        self,
+        house: &mut House<B, M>,
+        orders: &mut Orders,
+        number: usize,
+    ) -> Answer
+        ensures done { Presentation self number (slots_of orders.old) (shows B.Bank M.Methodology house.old) result (slots_of orders.new) (shows B.Bank M.Methodology house.new) }
+        ensures room { room_in orders.new ≡ room_in orders.old }
+    {
+        match index_of(number, orders.slots.len()) {
+            Some(index) => self.present_at(house, &mut orders.slots[index]),
+            None => Answer::Absent,
+        }
     }
 }

@@ -10,7 +10,6 @@ ghost use Rattle.history.specs.Steps.{Meters, Closes, Draws, Stepped};
 use crate::answer::Answer;
 use crate::call::{Call, Named, Spending, Stated};
 use crate::numbered::Orders;
-use crate::presenting::present;
 use accounts::Sheet;
 use banks::Bank;
 use house::House;
@@ -82,8 +81,8 @@ impl<B: Bank, M: Methodology> Desk<B, M> {
         ensures { Stepped (Call.Present how which) result (shows B.Bank M.Methodology self.old.house) self.old.hand others.old (shows B.Bank M.Methodology self.new.house) self.new.hand others.new }
     {
         match which {
-            Named::Drawn(number) => present(&mut self.house, &mut self.hand, number, how),
-            Named::Other(number) => present(&mut self.house, others, number, how),
+            Named::Drawn(number) => how.present(&mut self.house, &mut self.hand, number),
+            Named::Other(number) => how.present(&mut self.house, others, number),
         }
     }
 

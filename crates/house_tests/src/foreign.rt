@@ -4,7 +4,7 @@ ghost use Rattle.std.specs.Prelude.{◌≡◌};
 use crate::market::{SERIAL, agreement, filing, sent, tariff, year};
 use agreements::TwoPart;
 use banks::One;
-use history::{Answer, Call, Named, Orders, Spending, Unperformed, perform};
+use history::{Answer, Call, Named, NewHouse, Orders, Spending, Unperformed};
 use house::House;
 use ledger::Refusal;
 use methodology::ThreeIntervals;
@@ -38,8 +38,12 @@ fn answers_beside(
         return (Err(Unperformed::NoMemory), order);
     };
     others.add(order).unwrap();
-    let bank = One::new(agreement());
-    let outcome = perform(heap, bank, ThreeIntervals, SERIAL, calls, &mut others);
+    let house = NewHouse {
+        bank: One::new(agreement()),
+        methodology: ThreeIntervals,
+        serial: SERIAL,
+    };
+    let outcome = house.perform(heap, calls, &mut others);
     let order = others.take_last().unwrap();
     others.end().unwrap();
     (outcome.map(|performance| performance.hold_all().1), order)

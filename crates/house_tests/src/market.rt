@@ -1,7 +1,7 @@
 // A market with one station and one licensee, and the calls that are made of its house.
 use accounts::Sheet;
 use banks::{Bank, One};
-use history::{Answer, Call, Stated, perform_alone};
+use history::{Answer, Call, NewHouse};
 use ledger::Refusal;
 use metering::{BLOCKS, Figures, Kind, Reading, make_reading};
 use methodology::{Methodology, ThreeIntervals};
@@ -43,10 +43,7 @@ pub fn tariff() -> Call {
 }
 
 pub fn close(readings: usize, deliveries: usize) -> Call {
-    Call::Close(Stated {
-        readings,
-        deliveries,
-    })
+    Call::closing(readings, deliveries)
 }
 
 // What is answered to the calls of a house over any bank and methodology. No order of another house is there, and what is
@@ -57,8 +54,12 @@ pub fn answers_of<B: Bank + Drop, M: Methodology + Drop>(
     methodology: M,
     calls: &[Call],
 ) -> Result<Vec<Answer>, AllocError> {
-    let performance = perform_alone(heap, bank, methodology, SERIAL, calls)?;
-    Ok(performance.hold_all().1)
+    let house = NewHouse {
+        bank,
+        methodology,
+        serial: SERIAL,
+    };
+    Ok(house.perform_alone(heap, calls)?.hold_all().1)
 }
 
 // The same of the market's own house.
@@ -68,16 +69,10 @@ pub fn answers_to(heap: Global, calls: &[Call]) -> Result<Vec<Answer>, AllocErro
 
 // Why the call with this place in the list was refused, if it was.
 pub fn refusal_at(answers: &[Answer], place: usize) -> Option<Refusal> {
-    match answers.get(place) {
-        Some(Answer::Refused(why)) => Some(*why),
-        _ => None,
-    }
+    answers.get(place)?.refusal()
 }
 
 // The sheet that the call with this place in the list filled.
 pub fn sheet_at(answers: &[Answer], place: usize) -> Option<Sheet> {
-    match answers.get(place) {
-        Some(Answer::Closed(sheet)) => Some(*sheet),
-        _ => None,
-    }
+    answers.get(place)?.sheet().copied()
 }

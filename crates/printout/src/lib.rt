@@ -15,7 +15,7 @@ pub use verb::Verb;
 mod tests {
     use super::*;
     use agreements::{Cause, Fault};
-    use history::{Answer, Call, Named, Spending, Stated};
+    use history::{Answer, Call, Named, Spending};
     use ledger::Refusal;
     use metering::Reading;
     use std::test::Fail;
@@ -24,10 +24,7 @@ mod tests {
     // Calls with their answers, in the order of the lines below.
     fn performed() -> [(Call, Answer); 13] {
         let meter = Call::Meter(Reading::empty());
-        let close = Call::Close(Stated {
-            readings: 1,
-            deliveries: 1,
-        });
+        let close = Call::closing(1, 1);
         let fault = Fault {
             cause: Cause::Contract,
             layer: 0,

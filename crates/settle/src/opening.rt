@@ -1,7 +1,7 @@
 // Opening what a journal's entries name, so that each is a call or the refusal of its meter file.
 use crate::failure::Failure;
 use crate::source::Source;
-use history::{Call, Named, Spending, Stated};
+use history::{Call, Named, Spending};
 use journal::{Entry, Request};
 use meter_files::read_file;
 use metering::{Reading, Refusal};
@@ -62,10 +62,7 @@ impl Source<'_> {
             Request::Close {
                 readings,
                 deliveries,
-            } => Call::Close(Stated {
-                readings,
-                deliveries,
-            }),
+            } => Call::closing(readings, deliveries),
             Request::Draw(place) => Call::Draw(place),
             Request::Release(order) => Call::Present(Spending::Release, Named::Drawn(order)),
             Request::Hold(order) => Call::Present(Spending::Hold, Named::Drawn(order)),

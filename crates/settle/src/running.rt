@@ -3,7 +3,7 @@ use crate::failure::Failure;
 use crate::opening::List;
 use crate::printing::Outcome;
 use banks::Bank;
-use history::perform_alone;
+use history::NewHouse;
 use methodology::Methodology;
 use stations::Stations;
 
@@ -16,7 +16,12 @@ pub fn perform_list<M: Methodology + Drop>(
     list: &List,
 ) -> Result<(), Failure> {
     let places = stations.places();
-    let performance = perform_alone(rt.alloc(), stations, market, serial, &list.calls)?;
+    let house = NewHouse {
+        bank: stations,
+        methodology: market,
+        serial,
+    };
+    let performance = house.perform_alone(rt.alloc(), &list.calls)?;
     let outcome = Outcome {
         list,
         performance: &performance,

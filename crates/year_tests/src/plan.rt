@@ -1,6 +1,6 @@
 // What a market files in two years, and the calls that are made of its house.
 use banks::One;
-use history::{Answer, Call, Named, Spending, Stated, perform_alone};
+use history::{Answer, Call, Named, NewHouse, Spending};
 use methodology::Methodology;
 use std::alloc::{AllocError, Global};
 use tariffs::{Filing, Row};
@@ -53,10 +53,7 @@ pub fn half_year(calls: &mut Vec<Call>, filing: Filing, half: u8) -> Result<(), 
     for month in 1..7 {
         calls.push(Call::Meter(sent()))?;
         calls.push(Call::Deliver(taken()))?;
-        calls.push(Call::Close(Stated {
-            readings: 1,
-            deliveries: 1,
-        }))?;
+        calls.push(Call::closing(1, 1))?;
         if let Some((number, how)) = payment_after(6 * usize::from(half) + month) {
             calls.push(Call::Draw(1))?;
             calls.push(Call::Present(how, Named::Drawn(number)))?;
@@ -84,6 +81,10 @@ pub fn answers_to<M: Methodology + Drop>(
     methodology: M,
     calls: &[Call],
 ) -> Result<Vec<Answer>, AllocError> {
-    let performance = perform_alone(heap, One::new(agreement()), methodology, 1, calls)?;
-    Ok(performance.hold_all().1)
+    let house = NewHouse {
+        bank: One::new(agreement()),
+        methodology,
+        serial: 1,
+    };
+    Ok(house.perform_alone(heap, calls)?.hold_all().1)
 }

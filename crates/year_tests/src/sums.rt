@@ -8,10 +8,8 @@ use std::alloc::{AllocError, Global};
 // The sheets of all closed months.
 pub fn sheets_of(heap: Global, answers: &[Answer]) -> Result<Vec<Sheet>, AllocError> {
     let mut sheets = Vec::new(heap);
-    for answer in answers {
-        if let Answer::Closed(sheet) = answer {
-            sheets.push(*sheet)?;
-        }
+    for sheet in answers.iter().filter_map(Answer::sheet) {
+        sheets.push(*sheet)?;
     }
     Ok(sheets)
 }

@@ -9,6 +9,7 @@ ghost use Rattle.history.specs.declared.performing.Unperformed.TheVariants.{Seri
 
 use crate::answer::Answer;
 use crate::call::Call;
+use crate::new_house::NewHouse;
 use crate::numbered::Orders;
 use crate::performing::{Performance, Unperformed};
 use crate::stepping::Desk;
@@ -17,69 +18,70 @@ use house::House;
 use methodology::Methodology;
 use std::alloc::{AllocError, Global};
 
-// Makes a house over the bank and the methodology, and then the calls, one after another, beside orders of other houses.
-fn make<B: Bank + Drop, M: Methodology + Drop>(
-    heap: Global,
-    bank: B,
-    methodology: M,
-    serial: u64,
-    calls: &[Call],
-    others: &mut Orders,
-) -> Result<Performance<B, M>, AllocError>
-    requires { Foreign serial (slots_of others.old) }
-    ensures performed { IfOk result (λ p. Performed M.Methodology.shape (M.Methodology.meaning methodology) (B.Bank.row bank) serial (slots_of others.old) calls.now p.answers.items (slots_of p.hand) (shows B.Bank M.Methodology p.house)) }
-    ensures others { slots_of others.new ≡ slots_of others.old }
-{
-    let mut answers = Vec::with_capacity(heap, calls.len())?;
-    let hand = Orders::with_room(heap, calls.len())?;
-    let house = House::new(bank, methodology, serial);
-    let mut desk = Desk { house, hand };
-    for call in calls {
-        let answer = desk.step(others, call);
-        answers.push_reserved(answer);
+impl<B: Bank + Drop, M: Methodology + Drop> NewHouse<B, M> {
+    // Makes the house, and then the calls, one after another, beside orders of other houses.
+    fn make(
+        self,
+        heap: Global,
+        calls: &[Call],
+        others: &mut Orders,
+    ) -> Result<Performance<B, M>, AllocError>
+        requires { Foreign self.serial (slots_of others.old) }
+        ensures performed { IfOk result (λ p. Performed M.Methodology.shape (M.Methodology.meaning self.methodology) (B.Bank.row self.bank) self.serial (slots_of others.old) calls.now p.answers.items (slots_of p.hand) (shows B.Bank M.Methodology p.house)) }
+        ensures others { slots_of others.new ≡ slots_of others.old }
+    {
+        let NewHouse {
+            bank,
+            methodology,
+            serial,
+        } = self;
+        let mut answers = Vec::with_capacity(heap, calls.len())?;
+        let hand = Orders::with_room(heap, calls.len())?;
+        let house = House::new(bank, methodology, serial);
+        let mut desk = Desk { house, hand };
+        for call in calls {
+            let answer = desk.step(others, call);
+            answers.push_reserved(answer);
+        }
+        let Desk { house, hand } = desk;
+        Ok(Performance {
+            house,
+            answers,
+            hand,
+        })
     }
-    let Desk { house, hand } = desk;
-    Ok(Performance {
-        house,
-        answers,
-        hand,
-    })
-}
 
-// Makes a house over the bank and the methodology, and then the calls, one after another. Orders of other houses may be
-// presented among them: they come back, and stay where they are.
-pub fn perform<B: Bank + Drop, M: Methodology + Drop>(
-    heap: Global,
-    bank: B,
-    methodology: M,
-    serial: u64,
-    calls: &[Call],
-    others: &mut Orders,
-) -> Result<Performance<B, M>, Unperformed>
-    ensures performed { elim result [ Ok p ↦ Performed M.Methodology.shape (M.Methodology.meaning methodology) (B.Bank.row bank) serial (slots_of others.old) calls.now p.answers.items (slots_of p.hand) (shows B.Bank M.Methodology p.house) | Err why ↦ elim why [ SerialTaken ↦ any_bears serial (slots_of others.old) ≡ true | NoMemory ↦ Foreign serial (slots_of others.old) ] ] }
-    ensures others { slots_of others.new ≡ slots_of others.old }
-{
-    if others.bears(serial) {
-        return Err(Unperformed::SerialTaken);
+    // Makes the house, and then the calls, one after another. Orders of other houses may be presented among them: they come
+    // back, and stay where they are.
+    pub fn perform(
+        self,
+        heap: Global,
+        calls: &[Call],
+        others: &mut Orders,
+    ) -> Result<Performance<B, M>, Unperformed>
+        ensures performed { elim result [ Ok p ↦ Performed M.Methodology.shape (M.Methodology.meaning self.methodology) (B.Bank.row self.bank) self.serial (slots_of others.old) calls.now p.answers.items (slots_of p.hand) (shows B.Bank M.Methodology p.house) | Err why ↦ elim why [ SerialTaken ↦ any_bears self.serial (slots_of others.old) ≡ true | NoMemory ↦ Foreign self.serial (slots_of others.old) ] ] }
+        ensures others { slots_of others.new ≡ slots_of others.old }
+    {
+        if others.bears(self.serial) {
+            return Err(Unperformed::SerialTaken);
+        }
+        let performance = self.make(heap, calls, others)?;
+        Ok(performance)
     }
-    let performance = make(heap, bank, methodology, serial, calls, others)?;
-    Ok(performance)
-}
 
-// The same where there is no order of another house.
-pub fn perform_alone<B: Bank + Drop, M: Methodology + Drop>(
-    heap: Global,
-    bank: B,
-    methodology: M,
-    serial: u64,
-    calls: &[Call],
-) -> Result<Performance<B, M>, AllocError>
-    ensures { IfOk result (λ p. Performed M.Methodology.shape (M.Methodology.meaning methodology) (B.Bank.row bank) serial [] calls.now p.answers.items (slots_of p.hand) (shows B.Bank M.Methodology p.house)) }
-{
-    let mut none = Orders::with_room(heap, 0)?;
-    let outcome = make(heap, bank, methodology, serial, calls, &mut none);
-    none.finish();
-    outcome
+    // The same where there is no order of another house.
+    pub fn perform_alone(
+        self,
+        heap: Global,
+        calls: &[Call],
+    ) -> Result<Performance<B, M>, AllocError>
+        ensures { IfOk result (λ p. Performed M.Methodology.shape (M.Methodology.meaning self.methodology) (B.Bank.row self.bank) self.serial [] calls.now p.answers.items (slots_of p.hand) (shows B.Bank M.Methodology p.house)) }
+    {
+        let mut none = Orders::with_room(heap, 0)?;
+        let outcome = self.make(heap, calls, &mut none);
+        none.finish();
+        outcome
+    }
 }
 
 impl<B: Bank, M: Methodology> Performance<B, M> {

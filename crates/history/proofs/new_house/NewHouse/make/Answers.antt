@@ -1,7 +1,7 @@
 use Rattle.std.proofs.Common.{length, vec_items, refl, ap, ◌∙◌, arith}
 use Rattle.history.specs.Slots.{slots_of}
 use Rattle.history.proofs.Steps.{performed_none, one_more, all_taken, still_foreign, all_own}
-use Rattle.history.proofs.performing.perform.make.Goals as goal
+use Rattle.history.proofs.new_house.NewHouse.make.Goals as goal
 
 pub loop-call-init : goal.loop-call-init
 loop-call-init g c =

@@ -2,7 +2,7 @@ use Rattle.std.proofs.Common.{◌≡◌, ◌≤◌, length, take, vec_items, vec
 use Rattle.house.specs.Shown.{shows}
 use Rattle.history.specs.Slots.{slots_of, room_in}
 use Rattle.history.specs.Histories.{Performed}
-use Rattle.history.proofs.performing.perform.make.Given as goal
+use Rattle.history.proofs.new_house.NewHouse.make.Given as goal
 
 abbrev pub invariant-loop-call : goal.invariant-loop-call
 invariant-loop-call g l =
