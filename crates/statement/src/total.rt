@@ -2,16 +2,25 @@
 ghost use Rattle.std.specs.Prelude.{◌≡◌, ℕ, ◌^◌, ◌≤◌, length};
 ghost use Rattle.std.specs.List.{sum_by};
 
-// What the items amount to together. There are at most eight, as many as a market has licensees.
-pub fn total<T, F: Fn(&T) -> u64>(items: &[T], amount: F) -> u128
-    requires few { length items.now ≤ 8 }
-    requires callable { F.IsAlwaysCallable amount }
-    ensures value { (each : T → ℕ) → ((x : _) (n : ℕ) → F.post amount x n → n ≡ each x.now) → result ≡ sum_by each items.now }
-    ensures bound { result ≤ 2 ^ 67 }
-{
-    let mut sum = 0;
-    for item in items {
-        sum += u128::from(amount(item));
+// What a few items amount to together. There are at most eight, as many as a market has licensees.
+#[derive(Clone, Copy)]
+pub struct Total {
+    pub sum: u128,
+    ghost modest: { sum ≤ 2 ^ 67 },
+}
+
+impl Total {
+    // What the items amount to.
+    pub fn of<T, F: Fn(&T) -> u64>(items: &[T], amount: F) -> Total
+        requires few { length items.now ≤ 8 }
+        requires callable { F.IsAlwaysCallable amount }
+        ensures { (each : T → ℕ) → ((x : _) (n : ℕ) → F.post amount x n → n ≡ each x.now) → result.sum ≡ sum_by each items.now }
+    {
+        // No chain: for a `sum` by a closure the check has no bound.
+        let mut sum = 0;
+        for item in items {
+            sum += u128::from(amount(item));
+        }
+        Total { sum }
     }
-    sum
 }

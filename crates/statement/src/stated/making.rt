@@ -17,7 +17,7 @@ use crate::money::PlaceMoney;
 use crate::stated::Statement;
 use crate::stated::sources::Sources;
 use crate::tally::Tally;
-use crate::total::total;
+use crate::total::Total;
 use accounts::{Books, PLACES};
 use banks::Bank;
 use history::{Call, Performance};
@@ -31,14 +31,13 @@ const CENT: u128 = 10_000;
 pub const CALL_LIMIT: usize = 4_294_967_296;
 
 // The licensees' fractions together.
-fn fractions_in(books: &Books) -> u128
-    ensures value { result ≡ fractions_in books.now }
-    ensures bound { result ≤ 2 ^ 67 }
+fn fractions_in(books: &Books) -> Total
+    ensures { result.sum ≡ fractions_in books.now }
 {
-    total(&books.fractions, |fraction| *fraction)
+    Total::of(&books.fractions, |fraction| *fraction)
 }
 
-// The balances of the first so many heads together.
+// The balances of the first so many heads together: a sum of signed numbers, and so no `Total`.
 fn balances_in(books: &Books, heads: usize) -> i128
     requires { heads ≤ head_limit }
     ensures value { result ≡ balances_in heads books.now }
@@ -53,12 +52,11 @@ fn balances_in(books: &Books, heads: usize) -> i128
 }
 
 // Their carries together.
-fn carries_in(books: &Books, heads: usize) -> u128
+fn carries_in(books: &Books, heads: usize) -> Total
     requires { heads ≤ head_limit }
-    ensures value { result ≡ carries_in heads books.now }
-    ensures bound { result ≤ 2 ^ 67 }
+    ensures { result.sum ≡ carries_in heads books.now }
 {
-    total(&books.accounts[..heads], |account| account.carry)
+    Total::of(&books.accounts[..heads], |account| account.carry)
 }
 
 impl Sources<'_> {
@@ -70,9 +68,9 @@ impl Sources<'_> {
         let books = &self.ledger.books;
         Account {
             bills: CENT * tally.bills,
-            fractions: fractions_in(books),
+            fractions: fractions_in(books).sum,
             balances: balances_in(books, self.heads),
-            carries: carries_in(books, self.heads),
+            carries: carries_in(books, self.heads).sum,
             margins: tally.margins,
             dues: tally.dues,
             revenues: CENT * tally.shares,

@@ -10,7 +10,7 @@ ghost use Rattle.statement.specs.Tallies.{nothing, no_tally, plus, more_at, with
 ghost use Rattle.statement.specs.Bounds.{call_limit, turn, Small, Within};
 
 use crate::tally::{PlaceTally, Tally};
-use crate::total::total;
+use crate::total::Total;
 use accounts::{Billed, PLACES, Sheet};
 use arith::months::month_share;
 use history::{Answer, Call};
@@ -27,19 +27,17 @@ fn bill_of(line: &Option<Billed>) -> u64
 }
 
 // The cents that a sheet bills.
-fn bills_on(sheet: &Sheet) -> u128
-    ensures value { result ≡ bills_on sheet.now }
-    ensures bound { result ≤ 2 ^ 67 }
+fn bills_on(sheet: &Sheet) -> Total
+    ensures { result.sum ≡ bills_on sheet.now }
 {
-    total(&sheet.licensees, bill_of)
+    Total::of(&sheet.licensees, bill_of)
 }
 
 // The cents that the yearly revenues of a market allow in a month.
-fn shares_of(yearly: &[u64; REVENUES], shape: Shape, month: u8) -> u128
-    ensures value { result ≡ sum_to (λ j. month_share_of (slice_index yearly.now j) month) shape.revenues }
-    ensures bound { result ≤ 2 ^ 67 }
+fn shares_of(yearly: &[u64; REVENUES], shape: Shape, month: u8) -> Total
+    ensures { result.sum ≡ sum_to (λ j. month_share_of (slice_index yearly.now j) month) shape.revenues }
 {
-    total(
+    Total::of(
         &yearly[..shape.revenues],
         |amount| month_share(*amount, month),
     )
@@ -100,11 +98,11 @@ impl Tally {
         ensures value { self.new ≡ with_sheet shape.revenues sheet.now self.old }
         ensures within { (n : ℕ) → Within n self.old → Within (n + turn) self.new }
     {
-        self.bills += bills_on(sheet);
+        self.bills += bills_on(sheet).sum;
         self.margins += i128::from(sheet.margin);
         self.dues += self.unsettled;
         self.unsettled = 0;
-        self.shares += shares_of(&self.yearly, shape, sheet.month);
+        self.shares += shares_of(&self.yearly, shape, sheet.month).sum;
     }
 
     // Adds what is answered to a call.

@@ -4,8 +4,8 @@ use Rattle.accounts.specs.Books.{no_account}
 use Rattle.statement.proofs.Summing.{sum_by_first}
 use Rattle.statement.proofs.stated.making.carries_in.Goals as goal
 
-pub returns-clause-value : goal.returns-clause-value
-returns-clause-value c =
+pub returns : goal.returns
+returns c =
     let b = c.args.books.now in
-    c.total.ensures.value (λ (a : Account). a.carry) (λ x n called. search rules)
+    c.of.ensures (λ (a : Account). a.carry) (λ x n called. search rules)
     ∙ sum_by_first (λ (a : Account). a.carry) no_account b.accounts c.args.heads (omega (arith, b.headed, c.requires))

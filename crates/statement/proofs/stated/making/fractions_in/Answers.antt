@@ -2,6 +2,6 @@ use Rattle.std.proofs.Common.{◌∙◌, rules}
 use Rattle.statement.proofs.Summing.{sum_by_all}
 use Rattle.statement.proofs.stated.making.fractions_in.Goals as goal
 
-pub returns-clause-value : goal.returns-clause-value
-returns-clause-value c =
-    c.total.ensures.value (λ n. n) (λ x n called. search rules) ∙ sum_by_all (λ n. n) 0 c.args.books.now.fractions 8 c.args.books.now.full
+pub returns : goal.returns
+returns c =
+    c.of.ensures (λ n. n) (λ x n called. search rules) ∙ sum_by_all (λ n. n) 0 c.args.books.now.fractions 8 c.args.books.now.full
