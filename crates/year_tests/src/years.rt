@@ -1,4 +1,6 @@
 // Two years in each methodology: four tariffs and twenty-four months, with an order drawn now and then.
+ghost use Rattle.std.specs.Prelude.{◌<◌};
+
 use crate::plan::{Plan, answers_to, half_year, three, two, two_years};
 use crate::sums::{accounted, dues, payments, sheets_of, spread, standing};
 use accounts::Sheet;
@@ -11,41 +13,53 @@ use std::process::Abort;
 use std::test::Fail;
 use tariffs::{Filing, Row};
 
-// What is to come of it: the rates of the first two tariffs, of the third and of the fourth, the margin of a month, and
-// the balances after six.
-#[derive(Drop)]
+// What is to come of a head: its rate under the first two tariffs, under the third and under the fourth, and its balance
+// after six months.
+#[derive(Clone, Copy)]
+struct ExpectedHead {
+    rates: [u64; 3],
+    balance: i64,
+}
+
+fn head(rates: [u64; 3], balance: i64) -> ExpectedHead {
+    ExpectedHead { rates, balance }
+}
+
+// What is to come of all heads, and the margin of each month.
+#[derive(Clone, Copy)]
 struct Expected {
-    base: [u64; 6],
-    third: [u64; 6],
-    fourth: [u64; 6],
+    heads: [ExpectedHead; 6],
     margin: i64,
-    balances: [i64; 6],
 }
 
-// Six months under a tariff: their numbers, margins and published rates.
-fn check_period(
-    rt: &impl Abort,
-    sheets: &[Sheet],
-    months: RangeInclusive<u8>,
-    rates: &[u64; 6],
-    margin: i64,
-) -> Result<(), Fail> {
-    for (sheet, month) in sheets.iter().zip(months) {
-        assert_eq!(rt; sheet.month, month);
-        assert_eq!(rt; sheet.margin, margin, "in month {month}");
-        for (line, rate) in sheet.heads.iter().zip(rates) {
-            assert_eq!(rt; line.published, *rate, "in month {month}");
+impl Expected {
+    // Six months under a tariff: their numbers, margins and published rates. The first two tariffs have the same rates.
+    fn check_period(
+        &self,
+        rt: &impl Abort,
+        sheets: &[Sheet],
+        months: RangeInclusive<u8>,
+        rate: usize,
+    ) -> Result<(), Fail>
+        requires { rate < 3 }
+    {
+        for (sheet, month) in sheets.iter().zip(months) {
+            assert_eq!(rt; sheet.month, month);
+            assert_eq!(rt; sheet.margin, self.margin, "in month {month}");
+            for (line, head) in sheet.heads.iter().zip(&self.heads) {
+                assert_eq!(rt; line.published, head.rates[rate], "in month {month}");
+            }
         }
+        Ok(())
     }
-    Ok(())
-}
 
-// What the first period leaves in the transactions account.
-fn check_balances(rt: &impl Abort, sheet: &Sheet, balances: &[i64; 6]) -> Result<(), Fail> {
-    for (line, balance) in sheet.heads.iter().zip(balances) {
-        assert_eq!(rt; line.balance, *balance);
+    // What the first period leaves in the transactions account.
+    fn check_balances(&self, rt: &impl Abort, sheet: &Sheet) -> Result<(), Fail> {
+        for (line, head) in sheet.heads.iter().zip(&self.heads) {
+            assert_eq!(rt; line.balance, head.balance);
+        }
+        Ok(())
     }
-    Ok(())
 }
 
 // The months of a year together give each company what it was allowed. Its head comes after that of generation.
@@ -100,11 +114,11 @@ fn walk<M: Methodology + Drop>(
     if sheets.len() != 24 {
         return Err("a month is not closed".into());
     }
-    check_period(rt, &sheets[..6], 1..=6, &expected.base, expected.margin)?;
-    check_period(rt, &sheets[6..12], 7..=12, &expected.base, expected.margin)?;
-    check_period(rt, &sheets[12..18], 1..=6, &expected.third, expected.margin)?;
-    check_period(rt, &sheets[18..], 7..=12, &expected.fourth, expected.margin)?;
-    check_balances(rt, &sheets[5], &expected.balances)?;
+    expected.check_period(rt, &sheets[..6], 1..=6, 0)?;
+    expected.check_period(rt, &sheets[6..12], 7..=12, 0)?;
+    expected.check_period(rt, &sheets[12..18], 1..=6, 1)?;
+    expected.check_period(rt, &sheets[18..], 7..=12, 2)?;
+    expected.check_balances(rt, &sheets[5])?;
     check_revenues(rt, &sheets[..12], None, &plan.revenues[0])?;
     check_revenues(rt, &sheets[12..], Some(&sheets[11]), &plan.revenues[1])?;
     check_account(rt, &answers, &sheets, plan)
@@ -116,11 +130,15 @@ fn walk<M: Methodology + Drop>(
 #[test]
 fn two_years_of_three_intervals(rt: HostRuntime) -> Result<(), Fail> {
     let expected = Expected {
-        base: [20_000, 9_000, 907, 52_000, 60_000, 50_000],
-        third: [22_222, 9_259, 925, 53_571, 52_631, 55_555],
-        fourth: [22_444, 9_284, 927, 53_728, 51_894, 56_110],
+        heads: [
+            head([20_000, 22_222, 22_444], 1_199_970),
+            head([9_000, 9_259, 9_284], 139_950),
+            head([907, 925, 927], 10_170),
+            head([52_000, 53_571, 53_728], 263_984),
+            head([60_000, 52_631, 51_894], -840_009),
+            head([50_000, 55_555, 56_110], 599_994),
+        ],
         margin: 0,
-        balances: [1_199_970, 139_950, 10_170, 263_984, -840_009, 599_994],
     };
     walk(&rt, rt.alloc(), ThreeIntervals, &three(), &expected)
 }
@@ -130,11 +148,15 @@ fn two_years_of_three_intervals(rt: HostRuntime) -> Result<(), Fail> {
 #[test]
 fn two_years_of_two_intervals(rt: HostRuntime) -> Result<(), Fail> {
     let expected = Expected {
-        base: [20_000, 9_000, 907, 462, 63_000, 52_500],
-        third: [22_222, 9_259, 925, 462, 50_000, 52_173],
-        fourth: [22_444, 9_284, 927, 463, 48_700, 52_140],
+        heads: [
+            head([20_000, 22_222, 22_444], 1_199_970),
+            head([9_000, 9_259, 9_284], 139_950),
+            head([907, 925, 927], 10_170),
+            head([462, 462, 463], 450),
+            head([63_000, 50_000, 48_700], -1_482_000),
+            head([52_500, 52_173, 52_140], -90_022),
+        ],
         margin: 150_000,
-        balances: [1_199_970, 139_950, 10_170, 450, -1_482_000, -90_022],
     };
     walk(&rt, rt.alloc(), TwoIntervals, &two(), &expected)
 }
@@ -156,12 +178,9 @@ fn a_rate_below_zero_is_not_published(rt: HostRuntime) -> Result<(), Fail> {
     }))?;
     calls.push(Call::Tariff(plan.filing))?;
     let answers = answers_to(heap, ThreeIntervals, &calls)?;
-    assert!(rt;
-        matches!(
-            answers.get(place),
-            Some(Answer::Refused(Refusal::RateOutOfRange(5)))
-        ),
-        "E2"
+    assert_eq!(rt;
+        answers.get(place).and_then(Answer::refusal),
+        Some(Refusal::RateOutOfRange(5))
     );
     assert!(rt;
         matches!(answers.last(), Some(Answer::Accepted)),
