@@ -1,18 +1,19 @@
 // Months that cannot be closed, and how each is mended.
-ghost use Rattle.std.specs.Prelude.{◌≤◌};
+ghost use Rattle.std.specs.Prelude.{◌<◌, ◌≤◌};
 ghost use Rattle.agreements.specs.Limits.{energy_price_limit};
 
 use crate::market::{
-    agreement, answers_of, answers_to, close, filing, reading, reading_of, refusal_at, sent,
-    sheet_at, tariff, year,
+    agreement, answers_of, checked_answers, checked_answers_of, filing, reading, reading_of,
+    refusal_at, sent, sheet_at, tariff, year,
 };
+use crate::told::Told;
 use agreements::TwoPart;
 use banks::{Beside, Listed, One};
-use history::Call;
+use history::{Answer, Call};
 use ledger::Refusal;
 use metering::Kind;
-use methodology::ThreeIntervals;
 use std::alloc::{AllocError, Global};
+use std::process::Abort;
 use std::test::Fail;
 use tariffs::{Filing, Row};
 
@@ -36,84 +37,108 @@ fn dear(energy_price: u64) -> TwoPart
 // Two more stations send in the kWh that are missing.
 #[test]
 fn no_more_is_delivered_than_was_sent(rt: HostRuntime) -> Result<(), Fail> {
-    let calls = [
-        year(),
-        tariff(),
-        Call::Meter(sent()),
-        Call::Deliver(reading(Kind::Licensee, 90, [18, 31, 22])),
-        close(1, 1),
-        Call::Meter(reading_of(Kind::Generator, 2, 0, [0, 1, 1])),
-        close(2, 1),
-        Call::Meter(reading_of(Kind::Generator, 3, 0, [0, 0, 1])),
-        close(3, 1),
+    let delivery = reading(Kind::Licensee, 90, [18, 31, 22]);
+    let second = reading_of(Kind::Generator, 2, 0, [0, 1, 1]);
+    let third = reading_of(Kind::Generator, 3, 0, [0, 0, 1]);
+    let list = [
+        (year(), Told::Accepted),
+        (tariff(), Told::Accepted),
+        (Call::Meter(sent()), Told::Metered(5_500_000)),
+        (Call::Deliver(delivery), Told::Accepted),
+        (Call::closing(1, 1), Told::Refused(Refusal::Supply(4))),
+        (Call::Meter(second), Told::Metered(100_000)),
+        (Call::closing(2, 1), Told::Refused(Refusal::Supply(5))),
+        (Call::Meter(third), Told::Metered(50_000)),
+        (Call::closing(3, 1), Told::Closed),
     ];
     let two = Beside::new(One::new(agreement()), One::new(agreement()));
     let bank = Beside::new(two, One::new(agreement()));
-    let answers = answers_of(rt.alloc(), bank, ThreeIntervals, &calls)?;
-    assert_eq!(rt; refusal_at(&answers, 4), Some(Refusal::Supply(4)));
-    assert_eq!(rt; refusal_at(&answers, 6), Some(Refusal::Supply(5)));
-    assert!(rt; sheet_at(&answers, 8).is_some(), "closed");
+    checked_answers_of(&rt, rt.alloc(), bank, &list)?;
     Ok(())
 }
 
 // 30 kWh were sent in at E1, and 14 delivered; a second licensee takes the kWh that makes them 15.
 #[test]
 fn twice_what_was_delivered_may_be_sent(rt: HostRuntime) -> Result<(), Fail> {
-    let calls = [
-        year(),
-        tariff(),
-        Call::Meter(sent()),
-        Call::Deliver(reading(Kind::Licensee, 90, [18, 14, 19])),
-        close(1, 1),
-        Call::Deliver(reading_of(Kind::Licensee, 2, 0, [0, 1, 0])),
-        close(1, 2),
+    let first = reading(Kind::Licensee, 90, [18, 14, 19]);
+    let second = reading_of(Kind::Licensee, 2, 0, [0, 1, 0]);
+    let list = [
+        (year(), Told::Accepted),
+        (tariff(), Told::Accepted),
+        (Call::Meter(sent()), Told::Metered(5_500_000)),
+        (Call::Deliver(first), Told::Accepted),
+        (Call::closing(1, 1), Told::Refused(Refusal::Supply(4))),
+        (Call::Deliver(second), Told::Accepted),
+        (Call::closing(1, 2), Told::Closed),
     ];
-    let answers = answers_to(rt.alloc(), &calls)?;
-    assert_eq!(rt; refusal_at(&answers, 4), Some(Refusal::Supply(4)));
-    assert!(rt; sheet_at(&answers, 6).is_some(), "closed");
+    checked_answers(&rt, rt.alloc(), &list)?;
+    Ok(())
+}
+
+// The actual rate of a head, on the sheet of the closing with this place in the list.
+fn check_actual(
+    rt: &impl Abort,
+    answers: &[Answer],
+    place: usize,
+    head: usize,
+    rate: u64,
+) -> Result<(), Fail>
+    requires { head < 6 }
+{
+    let sheet = sheet_at(answers, place).ok_or("the month is not closed")?;
+    assert_eq!(rt; sheet.heads[head].actual, rate);
     Ok(())
 }
 
 // 10^17 grains over a demand of 1 kW, then of 1,999,999 kW, and at last of 2,000,000 kW: 5 * 10^10 is the limit.
 #[test]
 fn a_demand_rate_keeps_its_limit(rt: HostRuntime) -> Result<(), Fail> {
-    let calls = [
-        year(),
-        tariff(),
-        Call::Meter(reading(Kind::Generator, DEMAND, [20, 30, 20])),
-        Call::Deliver(reading(Kind::Licensee, 1, [18, 28, 19])),
-        close(1, 1),
-        Call::Deliver(reading_of(Kind::Licensee, 2, 1_999_998, [0, 0, 0])),
-        close(1, 2),
-        Call::Deliver(reading_of(Kind::Licensee, 3, 1, [0, 0, 0])),
-        close(1, 3),
+    let station = reading(Kind::Generator, DEMAND, [20, 30, 20]);
+    let first = reading(Kind::Licensee, 1, [18, 28, 19]);
+    let second = reading_of(Kind::Licensee, 2, 1_999_998, [0, 0, 0]);
+    let third = reading_of(Kind::Licensee, 3, 1, [0, 0, 0]);
+    let list = [
+        (year(), Told::Accepted),
+        (tariff(), Told::Accepted),
+        (Call::Meter(station), Told::Metered(100_000_000_003_500_000)),
+        (Call::Deliver(first), Told::Accepted),
+        (
+            Call::closing(1, 1),
+            Told::Refused(Refusal::RateOverLimit(1)),
+        ),
+        (Call::Deliver(second), Told::Accepted),
+        (
+            Call::closing(1, 2),
+            Told::Refused(Refusal::RateOverLimit(1)),
+        ),
+        (Call::Deliver(third), Told::Accepted),
+        (Call::closing(1, 3), Told::Closed),
     ];
-    let answers = answers_of(rt.alloc(), One::new(dear(50_000)), ThreeIntervals, &calls)?;
-    assert_eq!(rt; refusal_at(&answers, 4), Some(Refusal::RateOverLimit(1)));
-    assert_eq!(rt; refusal_at(&answers, 6), Some(Refusal::RateOverLimit(1)));
-    let sheet = sheet_at(&answers, 8).ok_or("the month is not closed")?;
-    assert_eq!(rt; sheet.heads[0].actual, CAPACITY_PRICE);
-    Ok(())
+    let answers = checked_answers_of(&rt, rt.alloc(), One::new(dear(50_000)), &list)?;
+    check_actual(&rt, &answers, 8, 0, CAPACITY_PRICE)
 }
 
 // A kWh is due 10^8 grains, the limit. Of those sent in all must be delivered.
 #[test]
 fn an_energy_rate_keeps_its_limit(rt: HostRuntime) -> Result<(), Fail> {
-    let calls = [
-        year(),
-        tariff(),
-        Call::Meter(reading(Kind::Generator, 100, [20, 30, 20])),
-        Call::Deliver(reading(Kind::Licensee, 90, [20, 30, 19])),
-        close(1, 1),
-        Call::Deliver(reading_of(Kind::Licensee, 8, 0, [0, 0, 1])),
-        close(1, 2),
+    let station = reading(Kind::Generator, 100, [20, 30, 20]);
+    let first = reading(Kind::Licensee, 90, [20, 30, 19]);
+    let second = reading_of(Kind::Licensee, 8, 0, [0, 0, 1]);
+    let list = [
+        (year(), Told::Accepted),
+        (tariff(), Told::Accepted),
+        (Call::Meter(station), Told::Metered(7_002_000_000)),
+        (Call::Deliver(first), Told::Accepted),
+        (
+            Call::closing(1, 1),
+            Told::Refused(Refusal::RateOverLimit(5)),
+        ),
+        (Call::Deliver(second), Told::Accepted),
+        (Call::closing(1, 2), Told::Closed),
     ];
     let bank = One::new(TwoPart::new(100, 20_000, ENERGY_PRICE).unwrap());
-    let answers = answers_of(rt.alloc(), bank, ThreeIntervals, &calls)?;
-    assert_eq!(rt; refusal_at(&answers, 4), Some(Refusal::RateOverLimit(5)));
-    let sheet = sheet_at(&answers, 6).ok_or("the month is not closed")?;
-    assert_eq!(rt; sheet.heads[4].actual, ENERGY_PRICE);
-    Ok(())
+    let answers = checked_answers_of(&rt, rt.alloc(), bank, &list)?;
+    check_actual(&rt, &answers, 6, 4, ENERGY_PRICE)
 }
 
 // A first station that is paid for energy alone, and eight that are paid 10^17 grains for capacity alone.
@@ -134,7 +159,39 @@ fn greatest_demand(calls: &mut Vec<Call>) -> Result<(), AllocError> {
     for number in 2..9 {
         calls.push(Call::Deliver(reading_of(Kind::Licensee, number, DEMAND, [0, 0, 0])))?;
     }
-    calls.push(close(1, 8))?;
+    calls.push(Call::closing(1, 8))?;
+    Ok(())
+}
+
+// Six months of it, in the last of which the other stations are read once it cannot be closed.
+fn six_months(calls: &mut Vec<Call>) -> Result<(), AllocError> {
+    calls.push(year())?;
+    calls.push(Call::Tariff(Filing {
+        costs: Row::of(&[100_000_000_000_000, 0, 0]),
+        peaks: 20_000_000,
+        ..filing()
+    }))?;
+    for _ in 0..6 {
+        greatest_demand(calls)?;
+    }
+    for place in 2..10 {
+        calls.push(Call::Meter(reading_of(Kind::Generator, place, DEMAND, [0, 0, 0])))?;
+    }
+    calls.push(Call::closing(9, 8))?;
+    Ok(())
+}
+
+// What the fifth month and the sixth come to.
+fn check_months(rt: &impl Abort, answers: &[Answer]) -> Result<(), Fail> {
+    let fifth = sheet_at(answers, 51).ok_or("month 5 is not closed")?;
+    assert_eq!(rt; fifth.heads[0].balance, -BALANCE);
+    assert_eq!(rt; refusal_at(answers, 61), Some(Refusal::BalancePast(1)));
+    let sixth = sheet_at(answers, 70).ok_or("month 6 is not closed")?;
+    let first = sixth.heads[0];
+    assert_eq!(rt;
+        (sixth.month, first.actual, first.balance),
+        (6, CAPACITY_PRICE, -BALANCE)
+    );
     Ok(())
 }
 
@@ -145,27 +202,8 @@ fn greatest_demand(calls: &mut Vec<Call>) -> Result<(), AllocError> {
 fn a_balance_keeps_its_limit(rt: HostRuntime) -> Result<(), Fail> {
     let heap = rt.alloc();
     let mut calls = Vec::new(heap);
-    calls.push(year())?;
-    calls.push(Call::Tariff(Filing {
-        costs: Row::of(&[100_000_000_000_000, 0, 0]),
-        peaks: 20_000_000,
-        ..filing()
-    }))?;
-    for _ in 0..6 {
-        greatest_demand(&mut calls)?;
-    }
-    for place in 2..10 {
-        calls.push(Call::Meter(reading_of(Kind::Generator, place, DEMAND, [0, 0, 0])))?;
-    }
-    calls.push(close(9, 8))?;
+    six_months(&mut calls)?;
     let bank = nine_stations(heap).ok_or("no bank")?;
-    let answers = answers_of(heap, bank, ThreeIntervals, &calls)?;
-    let fifth = sheet_at(&answers, 51).ok_or("month 5 is not closed")?;
-    assert_eq!(rt; fifth.heads[0].balance, -BALANCE);
-    assert_eq!(rt; refusal_at(&answers, 61), Some(Refusal::BalancePast(1)));
-    let sixth = sheet_at(&answers, 70).ok_or("month 6 is not closed")?;
-    assert_eq!(rt; sixth.month, 6);
-    assert_eq!(rt; sixth.heads[0].actual, CAPACITY_PRICE);
-    assert_eq!(rt; sixth.heads[0].balance, -BALANCE);
-    Ok(())
+    let answers = answers_of(heap, bank, &calls)?;
+    check_months(&rt, &answers)
 }

@@ -1,7 +1,9 @@
 // Tariffs that are turned down for a figure that is out of its range, or for a rate that is.
-use crate::market::{answers_to, filing, refusal_at, tariff, year};
-use history::{Answer, Call};
+use crate::market::{checked_answers, filing, tariff, year};
+use crate::told::Told;
+use history::Call;
 use ledger::Refusal;
+use std::alloc::AllocError;
 use std::test::Fail;
 use tariffs::{Filing, Row};
 
@@ -98,28 +100,23 @@ fn greatest() -> Filing {
     }
 }
 
+// Adds the filings to a list, each as one that does not fit.
+fn misfiled(list: &mut Vec<(Call, Told)>, filings: &[Filing]) -> Result<(), AllocError> {
+    for filing in filings {
+        list.push((Call::Tariff(*filing), Told::Refused(Refusal::Misfiled)))?;
+    }
+    Ok(())
+}
+
 #[test]
 fn counts_fit_the_heads_and_figures_keep_their_ranges(rt: HostRuntime) -> Result<(), Fail> {
-    let mut calls = [year(); 18];
-    for (place, filing) in miscounted().iter().enumerate() {
-        calls[1 + place] = Call::Tariff(*filing);
-    }
-    for (place, filing) in misfigured().iter().enumerate() {
-        calls[6 + place] = Call::Tariff(*filing);
-    }
-    calls[17] = Call::Tariff(greatest());
-    let answers = answers_to(rt.alloc(), &calls)?;
-    for place in 1..17 {
-        assert_eq!(rt;
-            refusal_at(&answers, place),
-            Some(Refusal::Misfiled),
-            "at {place}"
-        );
-    }
-    assert!(rt;
-        matches!(answers.get(17), Some(Answer::Accepted)),
-        "published"
-    );
+    let heap = rt.alloc();
+    let mut list = Vec::new(heap);
+    list.push((year(), Told::Accepted))?;
+    misfiled(&mut list, &miscounted())?;
+    misfiled(&mut list, &misfigured())?;
+    list.push((Call::Tariff(greatest()), Told::Accepted))?;
+    checked_answers(&rt, heap, &list)?;
     Ok(())
 }
 
@@ -199,24 +196,15 @@ fn misrated() -> [(Filing, usize); 8] {
 
 #[test]
 fn the_first_head_whose_rate_is_out_of_range_is_named(rt: HostRuntime) -> Result<(), Fail> {
-    let cases = misrated();
-    let mut calls = [year(); 10];
-    for (place, (filing, _)) in cases.iter().enumerate() {
-        calls[1 + place] = Call::Tariff(*filing);
+    let heap = rt.alloc();
+    let mut list = Vec::new(heap);
+    list.push((year(), Told::Accepted))?;
+    for (filing, head) in &misrated() {
+        let refusal = Refusal::RateOutOfRange(*head);
+        list.push((Call::Tariff(*filing), Told::Refused(refusal)))?;
     }
-    calls[9] = tariff();
-    let answers = answers_to(rt.alloc(), &calls)?;
-    for (place, (_, head)) in cases.iter().enumerate() {
-        assert_eq!(rt;
-            refusal_at(&answers, 1 + place),
-            Some(Refusal::RateOutOfRange(*head)),
-            "at {place}"
-        );
-    }
-    assert!(rt;
-        matches!(answers.get(9), Some(Answer::Accepted)),
-        "published"
-    );
+    list.push((tariff(), Told::Accepted))?;
+    checked_answers(&rt, heap, &list)?;
     Ok(())
 }
 
@@ -232,12 +220,11 @@ fn a_rate_at_its_limit_is_published(rt: HostRuntime) -> Result<(), Fail> {
         coefficients: Row::of(&[1_000, 1_000, 500]),
         ..filing()
     };
-    let calls = [year(), Call::Tariff(greatest), tariff()];
-    let answers = answers_to(rt.alloc(), &calls)?;
-    assert!(rt;
-        matches!(answers.get(1), Some(Answer::Accepted)),
-        "published"
-    );
-    assert_eq!(rt; refusal_at(&answers, 2), Some(Refusal::NotNow));
+    let list = [
+        (year(), Told::Accepted),
+        (Call::Tariff(greatest), Told::Accepted),
+        (tariff(), Told::Refused(Refusal::NotNow)),
+    ];
+    checked_answers(&rt, rt.alloc(), &list)?;
     Ok(())
 }

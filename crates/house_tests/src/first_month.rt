@@ -1,54 +1,34 @@
 // The first month: metered, delivered, closed and paid.
-use crate::market::{answers_to, close, sent, sheet_at, taken, tariff, year};
-use history::{Answer, Call, Named, Spending};
+use crate::market::{checked_answers, sent, sheet_at, taken, tariff, year};
+use crate::told::Told;
+use accounts::Sheet;
+use history::{Call, Named, Spending};
+use std::process::Abort;
 use std::test::Fail;
+
+// What the sheet says of E2, and what licensee 1 is billed.
+fn check_sheet(rt: &impl Abort, sheet: &Sheet) -> Result<(), Fail> {
+    assert_eq!(rt; (sheet.month, sheet.margin), (1, 0));
+    let second = sheet.heads[4];
+    assert_eq!(rt; (second.balance, second.carry), (-140_011, 11));
+    let billed = sheet.licensees[0].ok_or("licensee 1 has no bill")?;
+    assert_eq!(rt; (billed.bill, billed.fraction), (618, 7_630));
+    Ok(())
+}
 
 #[test]
 fn a_month_is_closed_and_its_station_paid(rt: HostRuntime) -> Result<(), Fail> {
-    let calls = [
-        year(),
-        tariff(),
-        Call::Meter(sent()),
-        Call::Deliver(taken()),
-        close(1, 1),
-        Call::Draw(1),
-        Call::Present(Spending::Release, Named::Drawn(1)),
-        Call::Present(Spending::Hold, Named::Drawn(1)),
+    let first = Named::Drawn(1);
+    let list = [
+        (year(), Told::Accepted),
+        (tariff(), Told::Accepted),
+        (Call::Meter(sent()), Told::Metered(5_500_000)),
+        (Call::Deliver(taken()), Told::Accepted),
+        (Call::closing(1, 1), Told::Closed),
+        (Call::Draw(1), Told::Drawn(1, 550)),
+        (Call::Present(Spending::Release, first), Told::Paid(1, 550)),
+        (Call::Present(Spending::Hold, first), Told::Absent),
     ];
-    let answers = answers_to(rt.alloc(), &calls)?;
-    assert_eq!(rt; answers.len(), 8);
-    assert!(rt; matches!(answers.get(0), Some(Answer::Accepted)), "a year");
-    assert!(rt;
-        matches!(answers.get(1), Some(Answer::Accepted)),
-        "a tariff"
-    );
-    assert!(rt;
-        matches!(answers.get(2), Some(Answer::Metered(5_500_000))),
-        "dues"
-    );
-    assert!(rt;
-        matches!(answers.get(3), Some(Answer::Accepted)),
-        "a delivery"
-    );
-    assert!(rt;
-        matches!(answers.get(5), Some(Answer::Drawn(1, 550))),
-        "an order"
-    );
-    assert!(rt;
-        matches!(answers.get(6), Some(Answer::Paid(1, 550))),
-        "paid"
-    );
-    assert!(rt;
-        matches!(answers.get(7), Some(Answer::Absent)),
-        "paid already"
-    );
-    let sheet = sheet_at(&answers, 4).ok_or("the month is not closed")?;
-    assert_eq!(rt; sheet.month, 1);
-    assert_eq!(rt; sheet.margin, 0);
-    assert_eq!(rt; sheet.heads[4].balance, -140_011);
-    assert_eq!(rt; sheet.heads[4].carry, 11);
-    let billed = sheet.licensees[0].ok_or("licensee 1 has no bill")?;
-    assert_eq!(rt; billed.bill, 618);
-    assert_eq!(rt; billed.fraction, 7_630);
-    Ok(())
+    let answers = checked_answers(&rt, rt.alloc(), &list)?;
+    check_sheet(&rt, sheet_at(&answers, 4).ok_or("the month is not closed")?)
 }

@@ -1,7 +1,8 @@
 // An order of another house: it comes back, stays where it was, and is held by the house that drew it.
 ghost use Rattle.std.specs.Prelude.{◌≡◌};
 
-use crate::market::{SERIAL, agreement, filing, sent, tariff, year};
+use crate::market::{SERIAL, agreement, calls_in, check_told, filing, sent, tariff, year};
+use crate::told::Told;
 use agreements::TwoPart;
 use banks::One;
 use history::{Answer, Call, Named, NewHouse, Orders, Spending, Unperformed};
@@ -51,16 +52,19 @@ fn answers_beside(
 
 #[test]
 fn an_order_of_another_house_comes_back(rt: HostRuntime) -> Result<(), Fail> {
-    let calls = [
-        year(),
-        tariff(),
-        Call::Meter(sent()),
-        Call::Draw(1),
-        Call::Present(Spending::Release, Named::Other(1)),
-        Call::Present(Spending::Hold, Named::Other(1)),
-        Call::Present(Spending::Hold, Named::Other(2)),
-        Call::Present(Spending::Release, Named::Drawn(1)),
+    let release = Spending::Release;
+    let hold = Spending::Hold;
+    let list = [
+        (year(), Told::Accepted),
+        (tariff(), Told::Accepted),
+        (Call::Meter(sent()), Told::Metered(5_500_000)),
+        (Call::Draw(1), Told::Drawn(1, 550)),
+        (Call::Present(release, Named::Other(1)), Told::Returned),
+        (Call::Present(hold, Named::Other(1)), Told::Returned),
+        (Call::Present(hold, Named::Other(2)), Told::Absent),
+        (Call::Present(release, Named::Drawn(1)), Told::Paid(1, 550)),
     ];
+    let calls = calls_in(rt.alloc(), &list)?;
     let mut other: Market = House::new(One::new(agreement()), ThreeIntervals, OTHER);
     metered(&mut other).map_err(|_| "the other house takes no reading")?;
     let Ok(order) = other.draw(1) else {
@@ -69,29 +73,11 @@ fn an_order_of_another_house_comes_back(rt: HostRuntime) -> Result<(), Fail> {
     let on_orders = other.ledger().till.money(1).on_orders;
     let (outcome, order) = answers_beside(rt.alloc(), order, &calls);
     other.hold(order).unwrap();
-    let answers = outcome?;
-    assert!(rt;
-        matches!(answers.get(3), Some(Answer::Drawn(1, 550))),
-        "drawn"
+    check_told(&rt, &outcome?, &list);
+    let money = other.ledger().till.money(1);
+    assert_eq!(rt;
+        (on_orders, money.on_orders, money.standing),
+        (550, 0, 5_500_000)
     );
-    assert!(rt;
-        matches!(answers.get(4), Some(Answer::Returned)),
-        "returned"
-    );
-    assert!(rt;
-        matches!(answers.get(5), Some(Answer::Returned)),
-        "returned again"
-    );
-    assert!(rt;
-        matches!(answers.get(6), Some(Answer::Absent)),
-        "no second one"
-    );
-    assert!(rt;
-        matches!(answers.get(7), Some(Answer::Paid(1, 550))),
-        "paid"
-    );
-    assert_eq!(rt; on_orders, 550);
-    assert_eq!(rt; other.ledger().till.money(1).on_orders, 0);
-    assert_eq!(rt; other.ledger().till.money(1).standing, 5_500_000);
     Ok(())
 }

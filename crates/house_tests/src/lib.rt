@@ -15,3 +15,5 @@ mod market;
 mod money;
 #[cfg(test)]
 mod refusals;
+#[cfg(test)]
+mod told;

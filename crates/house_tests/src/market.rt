@@ -1,11 +1,14 @@
 // A market with one station and one licensee, and the calls that are made of its house.
+use crate::told::Told;
 use accounts::Sheet;
 use banks::{Bank, One};
 use history::{Answer, Call, NewHouse};
 use ledger::Refusal;
 use metering::{BLOCKS, Figures, Kind, Reading, make_reading};
-use methodology::{Methodology, ThreeIntervals};
+use methodology::ThreeIntervals;
 use std::alloc::{AllocError, Global};
+use std::process::Abort;
+use std::test::Fail;
 pub use worked_figures::{agreement, sent, taken, tariff as filing};
 
 // The number that the house's pay orders bear.
@@ -42,29 +45,58 @@ pub fn tariff() -> Call {
     Call::Tariff(filing())
 }
 
-pub fn close(readings: usize, deliveries: usize) -> Call {
-    Call::closing(readings, deliveries)
-}
-
-// What is answered to the calls of a house over any bank and methodology. No order of another house is there, and what is
-// still in hand at the end is held.
-pub fn answers_of<B: Bank + Drop, M: Methodology + Drop>(
+// What is answered to the calls of a house over any bank. No order of another house is there, and what is still in hand at
+// the end is held.
+pub fn answers_of<B: Bank + Drop>(
     heap: Global,
     bank: B,
-    methodology: M,
     calls: &[Call],
 ) -> Result<Vec<Answer>, AllocError> {
     let house = NewHouse {
         bank,
-        methodology,
+        methodology: ThreeIntervals,
         serial: SERIAL,
     };
     Ok(house.perform_alone(heap, calls)?.hold_all().1)
 }
 
+// The calls of a list in which each has its answer beside it.
+pub fn calls_in(heap: Global, list: &[(Call, Told)]) -> Result<Vec<Call>, AllocError> {
+    let mut calls = Vec::new(heap);
+    for (call, _) in list {
+        calls.push(*call)?;
+    }
+    Ok(calls)
+}
+
+// Sees that the answers are the ones beside the calls of a list.
+pub fn check_told(rt: &impl Abort, answers: &[Answer], list: &[(Call, Told)]) {
+    assert_eq!(rt; answers.len(), list.len());
+    for (place, (answer, (_, told))) in answers.iter().zip(list).enumerate() {
+        assert_eq!(rt; Told::from(answer), *told, "at {place}");
+    }
+}
+
+// What is answered to the calls of a list, which is to be what stands beside them.
+pub fn checked_answers_of<B: Bank + Drop>(
+    rt: &impl Abort,
+    heap: Global,
+    bank: B,
+    list: &[(Call, Told)],
+) -> Result<Vec<Answer>, Fail> {
+    let calls = calls_in(heap, list)?;
+    let answers = answers_of(heap, bank, &calls)?;
+    check_told(rt, &answers, list);
+    Ok(answers)
+}
+
 // The same of the market's own house.
-pub fn answers_to(heap: Global, calls: &[Call]) -> Result<Vec<Answer>, AllocError> {
-    answers_of(heap, One::new(agreement()), ThreeIntervals, calls)
+pub fn checked_answers(
+    rt: &impl Abort,
+    heap: Global,
+    list: &[(Call, Told)],
+) -> Result<Vec<Answer>, Fail> {
+    checked_answers_of(rt, heap, One::new(agreement()), list)
 }
 
 // Why the call with this place in the list was refused, if it was.
@@ -73,6 +105,6 @@ pub fn refusal_at(answers: &[Answer], place: usize) -> Option<Refusal> {
 }
 
 // The sheet that the call with this place in the list filled.
-pub fn sheet_at(answers: &[Answer], place: usize) -> Option<Sheet> {
-    answers.get(place)?.sheet().copied()
+pub fn sheet_at(answers: &[Answer], place: usize) -> Option<&Sheet> {
+    answers.get(place)?.sheet()
 }

@@ -1,12 +1,13 @@
 // The money of a place that is not drawn for years, and an order of another house.
-use crate::market::{answers_of, close, filing, metered, refusal_at, year};
+use crate::market::{answers_of, check_told, filing, metered, refusal_at, year};
+use crate::told::Told;
 use agreements::TwoPart;
 use banks::One;
 use history::{Answer, Call, Named, Spending};
 use ledger::Refusal;
 use metering::{BLOCKS, Kind};
-use methodology::ThreeIntervals;
 use std::alloc::{AllocError, Global};
+use std::process::Abort;
 use std::test::Fail;
 use tariffs::{Filing, Row};
 
@@ -17,6 +18,9 @@ const ENERGY: u32 = 20_000_000;
 
 // Dues at both prices' limits: 2,000,000 * 5 * 10^10 and 960,000,000 * 10^8 grains.
 const DUES: u64 = 100_000_000_000_000_000 + 96_000_000_000_000_000;
+
+// What twenty months of them come to, cents.
+const CENTS: u64 = 20 * DUES / 10_000;
 
 // A tariff by which licensees pay just what is due: G at 5,000,000 cents over a peak of 1, and GE at 10^8.
 fn even() -> Call {
@@ -44,9 +48,28 @@ fn months(calls: &mut Vec<Call>, count: u8) -> Result<(), AllocError> {
     for _ in 0..count {
         calls.push(sent_most())?;
         calls.push(taken_most())?;
-        calls.push(close(1, 1))?;
+        calls.push(Call::closing(1, 1))?;
     }
     Ok(())
+}
+
+// Twenty months in two years.
+fn twenty_months(calls: &mut Vec<Call>) -> Result<(), AllocError> {
+    for last in [6, 2] {
+        calls.push(year())?;
+        calls.push(even())?;
+        months(calls, 6)?;
+        calls.push(even())?;
+        months(calls, last)?;
+    }
+    Ok(())
+}
+
+// None of the first so many calls is refused.
+fn check_accepted(rt: &impl Abort, answers: &[Answer], count: usize) {
+    for place in 0..count {
+        assert_eq!(rt; refusal_at(answers, place), None, "at {place}");
+    }
 }
 
 // Twenty months of a station's dues are 3.92 * 10^18 grains, and one more would pass 4 * 10^18, drawn or not.
@@ -54,40 +77,24 @@ fn months(calls: &mut Vec<Call>, count: u8) -> Result<(), AllocError> {
 fn a_place_holds_no_more_than_its_limit(rt: HostRuntime) -> Result<(), Fail> {
     let heap = rt.alloc();
     let mut calls = Vec::new(heap);
-    for last in [6, 2] {
-        calls.push(year())?;
-        calls.push(even())?;
-        months(&mut calls, 6)?;
-        calls.push(even())?;
-        months(&mut calls, last)?;
+    twenty_months(&mut calls)?;
+    assert_eq!(rt; calls.len(), 66);
+    let list = [
+        (sent_most(), Told::Refused(Refusal::TooMuch)),
+        (Call::Draw(1), Told::Drawn(1, CENTS)),
+        (sent_most(), Told::Refused(Refusal::TooMuch)),
+        (
+            Call::Present(Spending::Release, Named::Drawn(1)),
+            Told::Paid(1, CENTS),
+        ),
+        (sent_most(), Told::Metered(DUES)),
+    ];
+    for (call, _) in &list {
+        calls.push(*call)?;
     }
-    let next = calls.len();
-    calls.push(sent_most())?;
-    calls.push(Call::Draw(1))?;
-    calls.push(sent_most())?;
-    calls.push(Call::Present(Spending::Release, Named::Drawn(1)))?;
-    calls.push(sent_most())?;
     let agreement = TwoPart::new(2_000_000, 50_000_000_000, 100_000_000).unwrap();
-    let bank = One::new(agreement);
-    let answers = answers_of(heap, bank, ThreeIntervals, &calls)?;
-    assert_eq!(rt; next, 66);
-    for (place, answer) in answers.iter().take(66).enumerate() {
-        assert!(rt; !matches!(answer, Answer::Refused(_)), "at {place}");
-    }
-    assert_eq!(rt; refusal_at(&answers, 66), Some(Refusal::TooMuch));
-    let cents = 20 * DUES / 10_000;
-    assert!(rt;
-        matches!(answers.get(67), Some(Answer::Drawn(1, c)) if *c == cents),
-        "drawn"
-    );
-    assert_eq!(rt; refusal_at(&answers, 68), Some(Refusal::TooMuch));
-    assert!(rt;
-        matches!(answers.get(69), Some(Answer::Paid(1, c)) if *c == cents),
-        "paid"
-    );
-    assert!(rt;
-        matches!(answers.get(70), Some(Answer::Metered(DUES))),
-        "metered"
-    );
+    let answers = answers_of(heap, One::new(agreement), &calls)?;
+    check_accepted(&rt, &answers, 66);
+    check_told(&rt, answers.get(66..).unwrap_or(&[]), &list);
     Ok(())
 }
