@@ -6,6 +6,7 @@ ghost use Rattle.accounts.specs.Limits.{month_energy_limit};
 use rates::HEADS;
 
 // Most licensees that a market has, as the length of a list.
+// A cast, since a constant cannot call `From`.
 pub const LICENSEES: usize = metering::LICENSEES as usize;
 
 // By head: the demand, kW, at the demand heads, and the energy, kWh, at the intervals.

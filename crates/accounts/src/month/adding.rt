@@ -21,6 +21,7 @@ use rates::HEADS;
 
 impl Month {
     // Adds a generator's reading with its dues, or leaves the month as it was.
+    // The methodology stays an argument beside the reading and the dues: a struct of them would be made for one call, and hold no fact.
     pub fn add_reading<M: Methodology>(
         &mut self,
         m: &M,
@@ -37,7 +38,7 @@ impl Month {
         if dues.capacity_due() > limit || dues.block_sum() > limit {
             return Err(Unadded::Ceiling);
         }
-        *self = generated(self, m, reading, dues);
+        *self = self.with_reading(m, reading, dues);
         Ok(())
     }
 
@@ -49,59 +50,56 @@ impl Month {
         if usize::from(reading.number) > LICENSEES || self.has_delivered(reading.number) {
             return Err(Unadded::Again);
         }
-        *self = delivered(self, m, reading);
+        *self = self.with_delivery(m, reading);
         Ok(())
     }
-}
 
-// The month with a generator's reading.
-fn generated<M: Methodology>(month: &Month, m: &M, reading: &Reading, dues: &Dues) -> Month
-    requires unread { read_at month.now reading.now.number ≡ false }
-    requires moderate { (capacity_due dues.now ≤ due_limit) × (block_sum dues.now ≤ due_limit) }
-    ensures { Generated (rules_of M.shape (M.meaning m.now)) month.now reading.now dues.now result }
-{
-    let mut read = month.read;
-    read[usize::from(reading.number) - 1] = true;
-    Month {
-        income: with_dues(month, m, dues),
-        sent: with_energy(month, m, reading),
-        read,
-        licensees: month.licensees,
+    // The month with a generator's reading.
+    fn with_reading<M: Methodology>(&self, m: &M, reading: &Reading, dues: &Dues) -> Month
+        requires unread { read_at self.now reading.now.number ≡ false }
+        requires moderate { (capacity_due dues.now ≤ due_limit) × (block_sum dues.now ≤ due_limit) }
+        ensures { Generated (rules_of M.shape (M.meaning m.now)) self.now reading.now dues.now result }
+    {
+        let mut read = self.read;
+        read[usize::from(reading.number) - 1] = true;
+        Month {
+            income: self.income_with(m, dues),
+            sent: self.sent_with(m, reading),
+            read,
+            licensees: self.licensees,
+        }
     }
-}
 
-// A month's income by head, and the dues on top of it.
-fn with_dues<M: Methodology>(month: &Month, m: &M, dues: &Dues) -> [u64; HEADS]
-    requires { (capacity_due dues.now ≤ due_limit) × (block_sum dues.now ≤ due_limit) }
-    ensures value { (k : ℕ) → k < head_limit → slice_index result k ≡ slice_index month.now.income k + under M.shape.revenues (M.meaning m.now).interval (capacity_due dues.now) 0 dues.now.blocks k }
-    ensures full { length dues.now.blocks ≡ block_count }
-{
-    added(
-        &month.income,
-        &by_head(m, dues.capacity_due() as u64, 0, &dues.blocks),
-    )
-}
+    // Its income by head, and the dues on top of it.
+    fn income_with<M: Methodology>(&self, m: &M, dues: &Dues) -> [u64; HEADS]
+        requires { (capacity_due dues.now ≤ due_limit) × (block_sum dues.now ≤ due_limit) }
+        ensures value { (k : ℕ) → k < head_limit → slice_index result k ≡ slice_index self.now.income k + under M.shape.revenues (M.meaning m.now).interval (capacity_due dues.now) 0 dues.now.blocks k }
+        ensures full { length dues.now.blocks ≡ block_count }
+    {
+        added(&self.income, &by_head(m, dues.capacity, 0, &dues.blocks))
+    }
 
-// A month's energy sent in by head, and the reading's on top of it.
-fn with_energy<M: Methodology>(month: &Month, m: &M, reading: &Reading) -> [u64; HEADS]
-    ensures { (k : ℕ) → k < head_limit → slice_index result k ≡ slice_index month.now.sent k + under M.shape.revenues (M.meaning m.now).interval 0 0 reading.now.blocks k }
-{
-    added(&month.sent, &by_head(m, 0, 0, &widened(&reading.blocks)))
-}
+    // Its energy sent in by head, and the reading's on top of it.
+    fn sent_with<M: Methodology>(&self, m: &M, reading: &Reading) -> [u64; HEADS]
+        ensures { (k : ℕ) → k < head_limit → slice_index result k ≡ slice_index self.now.sent k + under M.shape.revenues (M.meaning m.now).interval 0 0 reading.now.blocks k }
+    {
+        added(&self.sent, &by_head(m, 0, 0, &widened(&reading.blocks)))
+    }
 
-// The month with a licensee's reading.
-fn delivered<M: Methodology>(month: &Month, m: &M, reading: &Reading) -> Month
-    requires { (reading.now.number ≤ licensee_limit) × (delivered_at month.now reading.now.number ≡ false) }
-    ensures { Delivered (rules_of M.shape (M.meaning m.now)) month.now reading.now result }
-{
-    let demand = u64::from(reading.demand);
-    let taken = by_head(m, demand, demand, &widened(&reading.blocks));
-    let mut licensees = month.licensees;
-    licensees[usize::from(reading.number) - 1] = Some(Delivery { taken });
-    Month {
-        income: month.income,
-        sent: month.sent,
-        read: month.read,
-        licensees,
+    // The month with a licensee's reading.
+    fn with_delivery<M: Methodology>(&self, m: &M, reading: &Reading) -> Month
+        requires { (reading.now.number ≤ licensee_limit) × (delivered_at self.now reading.now.number ≡ false) }
+        ensures { Delivered (rules_of M.shape (M.meaning m.now)) self.now reading.now result }
+    {
+        let demand = u64::from(reading.demand);
+        let taken = by_head(m, demand, demand, &widened(&reading.blocks));
+        let mut licensees = self.licensees;
+        licensees[usize::from(reading.number) - 1] = Some(Delivery { taken });
+        Month {
+            income: self.income,
+            sent: self.sent,
+            read: self.read,
+            licensees,
+        }
     }
 }

@@ -1,7 +1,7 @@
 use Rattle.std.proofs.Common.{◌-◌, ◌<◌, length, None, refl, arith, get_or-set_other, get_or-set_same}
 use Rattle.accounts.proofs.Counting.{one_filled_more}
 use Rattle.accounts.proofs.Growing.{energy_within, taken_within}
-use Rattle.accounts.proofs.month.adding.delivered.Goals as goal
+use Rattle.accounts.proofs.month.Month.with_delivery.Goals as goal
 
 pub by_head-taken-requires : goal.by_head-taken-requires
 by_head-taken-requires g c = rw c.widened.ensures (omega (arith, energy_within c.args.reading.now))
@@ -18,9 +18,9 @@ invariant_of-licensees g c =
 pub returns : goal.returns
 returns g c =
     let reading = c.args.reading.now in
-    let licensees = c.args.month.now.licensees in
+    let licensees = c.args.self.now.licensees in
     let i = reading.number - 1 in
-    let lt : i < length licensees = omega (arith, c.args.month.now.listed, c.requires, reading.numbered) in
+    let lt : i < length licensees = omega (arith, c.args.self.now.listed, c.requires, reading.numbered) in
     record {
       income = refl;
       sent = refl;
