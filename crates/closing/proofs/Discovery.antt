@@ -1,14 +1,15 @@
 -- What is found for a head is what the rules say.
-use Rattle.std.proofs.Common.{◌≡◌, ℕ, ◌*◌, ◌/◌, ◌%◌, ◌<◌, ◌≤◌, cond, leb, get_or, ℤ, pos, ◌-ℤ◌, ◌*ℤ◌, ◌∙◌, arith}
+use Rattle.std.proofs.Common.{◌≡◌, ℕ, ◌*◌, ◌/◌, ◌%◌, ◌<◌, ◌≤◌, cond, leb, ℤ, pos, ◌-ℤ◌, ◌*ℤ◌, ◌∙◌, arith}
 use Rattle.std.proofs.lemmas.Bool.Decides.{nat_tests}
 use Rattle.methodology.specs.Meaning.{OneToTwo}
+use Rattle.rates.specs.Heads.{rates_at}
 use Rattle.settlement.specs.Closing.{Case, published, quantity, pool, sent, unit, rest, supply, spread, margin, actual, carry, difference}
 use Rattle.closing.specs.declared.finding.Finding.{Finding}
 use Rattle.closing.specs.Findings.{Found, Modest, spread_of, margin_of}
 
 -- an interval's allowed supply, by its quantity
 abbrev pub allowed_at : Case → ℕ → ℕ → ℕ
-allowed_at c k q = c.rules.allowed (sent c k) q (get_or c.rates.factors k 0)
+allowed_at c k q = c.rules.allowed (sent c k) q (rates_at c.rates k).factor
 
 -- by the head's quantity q and pool p, and by what it spreads with its margin
 pub found : (c : Case) (k q p s : ℕ) (m : ℤ) (x : Finding) → q ≡ quantity c k → p ≡ pool c k → s ≡ cond (leb k c.rules.revenues) p (spread_of p (sent c k) (allowed_at c k q)) → m ≡ cond (leb k c.rules.revenues) (pos 0) (margin_of p (sent c k) (allowed_at c k q)) → x.actual ≡ s / q → x.carry ≡ s % q → x.margin ≡ m → x.difference ≡ pos q *ℤ (pos x.actual -ℤ pos (published c k)) → Modest c.month k x → Found c k x

@@ -25,20 +25,14 @@ impl<M: Methodology> Case<'_, M> {
         let quantity = self.quantity(k);
         let pool = self.pool(k);
         let sent = self.month.sent[k];
-        let spread = spread_of(
-            self.methodology,
-            k,
-            pool,
-            sent,
-            quantity,
-            self.rates.factors[k],
-        );
+        let rates = self.rates(k);
+        let spread = spread_of(self.methodology, k, pool, sent, quantity, rates.factor);
         let (actual, carry) = divided(u128::from(spread.amount), quantity);
         Finding {
             actual: actual as u64,
             carry,
             margin: spread.margin,
-            difference: difference_of(quantity, actual as u64, self.rates.published[k]),
+            difference: difference_of(quantity, actual as u64, rates.published),
         }
     }
 

@@ -1,6 +1,7 @@
 // What a head has to hand on.
 ghost use Rattle.std.specs.Prelude.{◌≡◌, ◌+◌, ◌<◌, ◌≤◌, slice_index};
 ghost use Rattle.methodology.specs.Limits.{head_limit, revenue_limit};
+ghost use Rattle.rates.specs.Heads.{rates_at};
 ghost use Rattle.rates.specs.Limits.{yearly_limit};
 ghost use Rattle.accounts.specs.Limits.{carry_limit};
 ghost use Rattle.accounts.specs.Books.{account_at};
@@ -14,7 +15,7 @@ use accounts::Account;
 use arith::month_share;
 use metering::index_of;
 use methodology::Methodology;
-use rates::Revenues;
+use rates::{HeadRates, Revenues};
 
 // A head's share of the year, in cents; only a revenue has one.
 fn share_of(revenues: &Revenues, count: usize, number: u8, k: usize) -> u64
@@ -35,6 +36,14 @@ impl<M: Methodology> Case<'_, M> {
         ensures { result ≡ account_at self.now.books.now k }
     {
         self.books.accounts[k]
+    }
+
+    // A head's rates in force.
+    pub fn rates(&self, k: usize) -> HeadRates
+        requires { k < head_limit }
+        ensures { result ≡ rates_at self.now.rates.now k }
+    {
+        self.rates.heads[k]
     }
 
     // A head's pool, in grains: the month's dues, the share of the year and the carry.

@@ -71,7 +71,7 @@ impl<M: Methodology> Case<'_, M> {
         let account = &accounts[k];
         HeadLine {
             actual: findings[k].actual,
-            published: self.rates.published[k],
+            published: self.rates(k).published,
             balance: account.balance,
             carry: account.carry,
         }

@@ -1,4 +1,4 @@
-use Rattle.std.proofs.Common.{◌≡◌, get_or, refl, ap, ◌∙◌, arith, rules, w64, to_z, of_z}
+use Rattle.std.proofs.Common.{◌≡◌, get_or, ap, ◌∙◌, arith, rules, w64, to_z, of_z}
 use Rattle.std.proofs.lemmas.Int.{ints}
 use Rattle.std.proofs.lemmas.List.{get_or_read}
 use Rattle.accounts.specs.Books.{no_account}
@@ -18,4 +18,4 @@ returns g c =
     let balance_is = ap (λ a. a.balance) account_is ∙ c.requires.closed.balance_is in
     let carry_is = ap (λ a. a.carry) account_is ∙ c.requires.closed.carry_is in
     let whole : to_z w64 (of_z w64 (get_or all k c.index-accounts-k.result).balance) ≡ (get_or all k c.index-accounts-k.result).balance = omega (arith, ints) in
-    line_is (shows g.M.Methodology c.args.self.now) k _ _ _ _ actual_is refl (whole ∙ balance_is) carry_is
+    line_is (shows g.M.Methodology c.args.self.now) k _ _ _ _ actual_is (ap (λ r. r.published) c.rates.ensures) (whole ∙ balance_is) carry_is
