@@ -67,6 +67,7 @@ impl Till {
         if !money.has_room(grains) {
             return Err(TillRefusal::TooMuch);
         }
+        // What a place has room for fits 64 bits, so the cast loses nothing.
         self.put(
             place,
             Money {
