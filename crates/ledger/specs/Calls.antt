@@ -4,6 +4,7 @@ use Rattle.metering.specs.declared.reading.Kind.{Kind}
 use Rattle.metering.specs.declared.reading.Kind.TheVariants.{Generator, Licensee}
 use Rattle.metering.specs.declared.reading.Reading.{Reading}
 use Rattle.banks.specs.Rows.{at_place, outcome_at, Books as Booked}
+use Rattle.rates.specs.Heads.{unset, rates_at}
 use Rattle.accounts.specs.declared.sheet.Sheet.{Sheet}
 use Rattle.accounts.specs.Books.{Unused, PeriodBegun, earlier}
 use Rattle.accounts.specs.Months.{read_at, delivered_at, Opened, Generated, Delivered}
@@ -33,7 +34,7 @@ use Rattle.ledger.specs.Terms.{worth, dues_at}
 pub record NewHouse (serial : ℕ) (v : View) : Type 0 where
   pub stage_is : v.ledger.stage ≡ BeforeYear
   pub no_year : (j : ℕ) → slice_index v.ledger.revenues.yearly j ≡ 0
-  pub no_tariff : (k : ℕ) → slice_index v.ledger.rates.published k ≡ 0
+  pub no_tariff : (k : ℕ) → rates_at v.ledger.rates k ≡ unset
   pub unused : Unused (books_of v)
   pub opened : Opened (month_of v)
   pub money : New serial (till_of v)

@@ -1,7 +1,8 @@
 -- A head's adjustment, and its tests as one.
-use Rattle.std.proofs.Common.{◌≡◌, ℕ, zero, suc, ◌^◌, ◌<◌, ◌≤◌, true, ◌&&◌, T, leb, ℤ, pos, negsuc, ◌+ℤ◌, nat_abs, Ok, refl, le_trans, arith, w64, SFits, to_z, of_z}
-use lib.Signed.{le_z, non_neg}
+use Rattle.std.proofs.Common.{◌≡◌, ℕ, zero, suc, ◌^◌, ◌<◌, ◌≤◌, true, ◌&&◌, leb, ℤ, pos, negsuc, ◌+ℤ◌, ◌≤ℤ◌, nat_abs, Bool, Ok, refl, sym, ap, ◌∙◌, le_trans, arith, w64, SFits, to_z, of_z}
+use lib.Signed.{le_z}
 use mir.Syntax.{w128}
+use Rattle.std.specs.Int.{FitsUnsigned}
 use Rattle.std.proofs.lemmas.Int.{ints, to_z-of_z}
 use Rattle.std.proofs.lemmas.Bool.{and_parts, leb-true, false≢true, cond_both}
 use Rattle.arith.specs.Division.{floor}
@@ -24,7 +25,7 @@ sum_of base adjustment = to_z w128 (of_z w128 (to_z w128 (of_z w128 base) +ℤ t
 
 -- a head's figures, as they are computed, tell its tests and its published rate
 pub record Tells (shape : Shape) (filing : Filing) (differences : ℤ) (number base : ℕ) (wide each adjustment : ℤ) : Type 0 where
-  pub tests : (energy_fits shape filing number && keeps (limit_at shape number) base (to_z w64 (of_z w64 each)) (sum_of wide adjustment)) ≡ rate_fits shape filing differences number
+  pub tests : (published : ℕ) → pos published ≡ sum_of wide adjustment → (energy_fits shape filing number && keeps (limit_at shape number) base (to_z w64 (of_z w64 each)) (pos published)) ≡ rate_fits shape filing differences number
   pub sum : sum_of wide adjustment ≡ published_rate shape filing differences number
 
 pub figures_tell : (shape : Shape) (filing : Filing) (differences : ℤ) (number base : ℕ) (wide each adjustment : ℤ) → base < 2 ^ 64 → wide ≡ pos base → SFits w64 differences → SFits w64 each → nat_abs adjustment ≤ 2 ^ 64 → base ≡ base_rate shape filing number → each ≡ per_unit shape filing (to_z w64 (of_z w64 differences)) number → adjustment ≡ adjustment_at shape filing (to_z w64 (of_z w64 differences)) number → Tells shape filing differences number base wide each adjustment
@@ -32,17 +33,32 @@ unfolding rate_fits published_rate
 figures_tell shape filing differences number base wide each adjustment small widened given fits size eb ee ea =
     let ed = to_z-of_z w64 differences given in
     let sum : sum_of wide adjustment ≡ pos base +ℤ adjustment = omega (arith, ints) in
-    record { tests = rw (to_z-of_z w64 each fits, sum, eb, ee, ea, ed) refl; sum = rw (sum, eb, ea, ed) refl }
+    let tests : (energy_fits shape filing number && keeps (limit_at shape number) base (to_z w64 (of_z w64 each)) (sum_of wide adjustment)) ≡ rate_fits shape filing differences number = rw (to_z-of_z w64 each fits, sum, eb, ee, ea, ed) refl in
+    record {
+      tests = λ published is. ap (λ z. energy_fits shape filing number && keeps (limit_at shape number) base (to_z w64 (of_z w64 each)) z) is ∙ tests;
+      sum = rw (sum, eb, ea, ed) refl;
+    }
+
+-- what is said of a number that is the sum
+pub tested : {shape : Shape} {filing : Filing} {differences : ℤ} {number base : ℕ} {wide each adjustment : ℤ} → Tells shape filing differences number base wide each adjustment → (published : ℕ) {said answer : Bool} → pos published ≡ sum_of wide adjustment → said ≡ (energy_fits shape filing number && keeps (limit_at shape number) base (to_z w64 (of_z w64 each)) (pos published)) → said ≡ answer → rate_fits shape filing differences number ≡ answer
+tested t published is says was = sym (t.tests published is) ∙ sym says ∙ was
+
+-- a number that is the size of z is z, unless z lies below 0
+pub told_by : (z : ℤ) (n : ℕ) → pos 0 ≤ℤ z → n ≡ nat_abs z → pos n ≡ z
+told_by z n low same = omega (arith, ints)
 
 -- z is a number from 0 to the limit
 pub record UpFromZero (limit : ℕ) (z : ℤ) : Type 0 where
-  pub told : T (non_neg z)
   pub same : pos (nat_abs z) ≡ z
   pub most : nat_abs z ≤ limit
 
 between_zero : (limit : ℕ) (z : ℤ) → le_z (pos 0) z ≡ true → le_z z (pos limit) ≡ true → UpFromZero limit z
-between_zero limit (pos n) low high = record { told = tt; same = refl; most = leb-true n limit high }
+between_zero limit (pos n) low high = record { same = refl; most = leb-true n limit high }
 between_zero limit (negsuc n) low high = absurd (false≢true low)
+
+-- such a rate has 64 bits at most
+pub fits_unsigned : (z : ℤ) → UpFromZero demand_rate_limit z → FitsUnsigned w64 z
+fits_unsigned z up = (omega (arith, ints, up.same), omega (arith, ints, up.same, up.most))
 
 most_at : (shape : Shape) (number : ℕ) → limit_at shape number ≤ demand_rate_limit
 most_at shape number =
@@ -65,5 +81,5 @@ rates_kept shape filing differences number e =
     let most = most_at shape number in
     let small = between_zero limit published third.1 last.1 in (
       le_trans (leb-true (base_rate shape filing number) limit first.0) most,
-      record { told = small.told; same = small.same; most = le_trans small.most most },
+      record { same = small.same; most = le_trans small.most most },
     )

@@ -1,14 +1,15 @@
 -- The rates of each head, and what publishing a tariff answers. Heads are counted from 1; a table has head 1 at place 0.
-use Rattle.std.specs.Prelude.{◌≡◌, ℕ, ◌+◌, ◌-◌, ◌*◌, ◌/◌, ◌<◌, ◌≤◌, Bool, true, false, cond, ◌&&◌, List, get_or, ℤ, pos, ◌+ℤ◌, Ok, Err, Result, ◌==◌, int_le, nat_le, slice_index, slice_index_or, unsigned_abs}
+use Rattle.std.specs.Prelude.{◌≡◌, ℕ, ◌+◌, ◌-◌, ◌*◌, ◌/◌, ◌<◌, ◌≤◌, Bool, true, false, cond, ◌&&◌, List, ℤ, pos, ◌+ℤ◌, Ok, Err, Result, ◌==◌, int_le, nat_le, slice_index, slice_index_or, unsigned_abs}
 use Rattle.arith.specs.Division.{floor}
 use Rattle.arith.specs.Scaling.{more_by, more_by_signed, thousandths}
 use Rattle.methodology.specs.Heads.{heads_of, head_at, by_demand, rate_limit}
 use Rattle.methodology.specs.Limits.{energy_rate_limit}
 use Rattle.methodology.specs.Meaning.{UpTo}
 use Rattle.methodology.specs.declared.shape.Shape.{Shape}
+use Rattle.rates.specs.declared.head_rates.HeadRates.{HeadRates}
 use Rattle.rates.specs.declared.published.Rates.{Rates}
+use Rattle.rates.specs.Heads.{unset, rates_at}
 use Rattle.tariffs.specs.declared.filing.Filing.{Filing}
-use Rattle.tariffs.specs.declared.head_rates.HeadRates.{HeadRates}
 use Rattle.tariffs.specs.declared.refusal.TariffFault.{TariffFault}
 use Rattle.tariffs.specs.declared.refusal.TariffFault.TheVariants.{Misfiled, OutOfRange}
 use Rattle.tariffs.specs.Filing.{filing_fits}
@@ -77,13 +78,16 @@ rate_fits shape filing differences number =
     energy_fits shape filing number
     && keeps (limit_at shape number) (base_rate shape filing number) (per_unit shape filing differences number) (published_rate shape filing differences number)
 
+-- what a head that passes its tests is billed
+pub record Rated (shape : Shape) (filing : Filing) (differences : ℤ) (number : ℕ) (rates : HeadRates) : Type 0 where
+  pub fitting : rate_fits shape filing differences number ≡ true
+  pub published_is : pos rates.published ≡ published_rate shape filing differences number
+  pub base_is : rates.base ≡ base_rate shape filing number
+  pub factor_is : rates.factor ≡ filed_factor shape filing number
+
 -- a head's rates and loss factor, or its fault where one of its tests fails
 abbrev pub RatesHead : Shape → Filing → ℤ → ℕ → Result HeadRates TariffFault → Type 0
-RatesHead shape filing differences number (Ok rates) =
-    (rate_fits shape filing differences number ≡ true)
-    × (rates.base ≡ base_rate shape filing number)
-    × (pos rates.published ≡ published_rate shape filing differences number)
-    × (rates.factor ≡ filed_factor shape filing number)
+RatesHead shape filing differences number (Ok rates) = Rated shape filing differences number rates
 RatesHead shape filing differences number (Err fault) = (fault ≡ OutOfRange number) × (rate_fits shape filing differences number ≡ false)
 
 -- the differences of a head
@@ -99,18 +103,11 @@ pub record FirstMisfit (shape : Shape) (filing : Filing) (earlier : List ℤ) (n
   pub here : fits_at shape filing earlier number ≡ false
   pub before : (lower : ℕ) → 1 ≤ lower → lower < number → fits_at shape filing earlier lower ≡ true
 
--- what the rates hold for a head
-pub record Rated (shape : Shape) (filing : Filing) (earlier : List ℤ) (rates : Rates) (number : ℕ) : Type 0 where
-  pub fitting : fits_at shape filing earlier number ≡ true
-  pub published_is : pos (slice_index rates.published (number - 1)) ≡ published_rate shape filing (earlier_at earlier number) number
-  pub base_is : get_or rates.base (number - 1) 0 ≡ base_rate shape filing number
-  pub factor_is : get_or rates.factors (number - 1) 0 ≡ filed_factor shape filing number
-
 -- every head has its rates, and the places past the last head hold 0
 pub record Published (shape : Shape) (filing : Filing) (earlier : List ℤ) (rates : Rates) : Type 0 where
   pub heads : rates.shape ≡ shape
-  pub rated : (number : ℕ) → UpTo (heads_of shape) number → Rated shape filing earlier rates number
-  pub past : (place : ℕ) → heads_of shape ≤ place → (slice_index rates.published place ≡ 0) × (slice_index rates.base place ≡ 0) × (slice_index rates.factors place ≡ 0)
+  pub rated : (number : ℕ) → UpTo (heads_of shape) number → Rated shape filing (earlier_at earlier number) number (rates_at rates (number - 1))
+  pub past : (place : ℕ) → heads_of shape ≤ place → rates_at rates place ≡ unset
 
 -- what publishing answers
 abbrev pub Publishes : Shape → Filing → List ℤ → Result Rates TariffFault → Type 0

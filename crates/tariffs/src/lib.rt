@@ -4,7 +4,6 @@
 mod filed;
 pub mod filing;
 mod fitting;
-mod head_rates;
 pub mod limits;
 pub mod publishing;
 mod rating;
@@ -24,6 +23,7 @@ mod tests {
     use methodology::{Methodology, ThreeIntervals};
     use rates::HEADS;
 
+    // `worked_figures` has this filing too: that crate stands above this one.
     fn worked(interest: u64) -> Filing {
         Filing {
             costs: Row::of(&[1_080, 486, 49]),
@@ -39,7 +39,7 @@ mod tests {
 
     fn published(filing: &Filing, earlier: &[i64; HEADS]) -> Option<[u64; HEADS]> {
         let rates = publish(ThreeIntervals::shape(), filing, earlier).ok()?;
-        Some(rates.published)
+        Some(rates.heads.map(|head| head.published))
     }
 
     #[test]

@@ -1,5 +1,5 @@
 // The rates of a head. Heads are counted from 1.
-ghost use Rattle.std.specs.Prelude.{◌≡◌, ◌+◌, ◌-◌, ◌*◌, ◌^◌, ◌<◌, ◌≤◌, ◌&&◌, nat_le, unsigned_abs};
+ghost use Rattle.std.specs.Prelude.{◌≡◌, ◌+◌, ◌-◌, ◌*◌, ◌^◌, ◌<◌, ◌≤◌, ◌&&◌, nat_le, pos, unsigned_abs};
 ghost use Rattle.methodology.specs.Heads.{heads_of};
 ghost use Rattle.methodology.specs.Limits.{factor_limit};
 ghost use Rattle.methodology.specs.Meaning.{UpTo};
@@ -7,11 +7,11 @@ ghost use Rattle.tariffs.specs.Limits.{cost_limit, coefficient_limit, grains_per
 ghost use Rattle.tariffs.specs.Publishing.{per_cost, first_interval, at_interval, demand_head, generation_energy, filed_factor, base_rate, forecast, per_unit, adjustment_at, energy_fits, keeps, limit_at, RatesHead};
 
 use crate::filed::Filed;
-use crate::head_rates::HeadRates;
 use crate::limits::GRAINS_PER_CENT;
 use crate::refusal::TariffFault;
 use arith::{adjustment, scale_ppm, scale_thousandths};
 use methodology::ENERGY_RATE_LIMIT;
+use rates::HeadRates;
 
 // The number of the first interval's head, in a market with no revenues: it comes after generation.
 const FIRST_INTERVAL: usize = 2;
@@ -26,10 +26,10 @@ fn per_cost(cents: u64, quantity: u64) -> u64
 }
 
 // Whether a base rate, the differences per unit and a published rate keep a limit.
-fn keeps_limit(limit: u64, base: u64, each: i64, published: i128) -> bool
-    ensures { result ≡ keeps limit base each published }
+fn keeps_limit(limit: u64, base: u64, each: i64, published: u64) -> bool
+    ensures { result ≡ keeps limit base each (pos published) }
 {
-    base <= limit && each.unsigned_abs() <= limit && (0..=i128::from(limit)).contains(&published)
+    base <= limit && each.unsigned_abs() <= limit && published <= limit
 }
 
 // A head of a tariff that is filed well.
@@ -75,6 +75,7 @@ impl FiledHead<'_> {
     }
 
     // The filed loss factor of its interval, ppm; 0 for a demand head.
+    // What is filed well keeps its limits, and so does what comes of it: every cast of these rates fits.
     fn factor(&self) -> u32
         ensures value { result ≡ filed_factor self.now.filed.now.shape self.now.filed.now.filing self.now.number }
         ensures most { result ≤ factor_limit }
@@ -138,8 +139,8 @@ impl FiledHead<'_> {
     }
 
     // Whether its figures pass all its tests.
-    fn passes(&self, base: u64, each: i64, published: i128) -> bool
-        ensures { result ≡ (energy_fits self.now.filed.now.shape self.now.filed.now.filing self.now.number && keeps (limit_at self.now.filed.now.shape self.now.number) base each published) }
+    fn passes(&self, base: u64, each: i64, published: u64) -> bool
+        ensures { result ≡ (energy_fits self.now.filed.now.shape self.now.filed.now.filing self.now.number && keeps (limit_at self.now.filed.now.shape self.now.number) base each (pos published)) }
     {
         let limit = self.filed.shape.head(self.number).rate_limit();
         self.energy_fits() && keeps_limit(limit, base, each, published)
@@ -151,14 +152,13 @@ impl FiledHead<'_> {
     {
         let base = self.base_rate();
         let (each, adjustment) = self.adjusted(differences);
-        let published = i128::from(base) + adjustment;
-        if !self.passes(base, each, published) {
-            return Err(TariffFault::OutOfRange(self.number));
+        match u64::try_from(i128::from(base) + adjustment) {
+            Ok(published) if self.passes(base, each, published) => Ok(HeadRates {
+                published,
+                base,
+                factor: self.factor(),
+            }),
+            _ => Err(TariffFault::OutOfRange(self.number)),
         }
-        Ok(HeadRates {
-            published: published as u64,
-            base,
-            factor: self.factor(),
-        })
     }
 }

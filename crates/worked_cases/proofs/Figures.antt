@@ -4,6 +4,7 @@ use Rattle.metering.specs.declared.reading.Reading.{Reading}
 use Rattle.methodology.specs.Markets.{three_shape, three_meaning, three_intervals}
 use Rattle.agreements.specs.declared.dues.Dues.{Dues}
 use Rattle.rates.specs.declared.published.Rates.{Rates}
+use Rattle.rates.specs.Heads.{rates_at}
 use Rattle.accounts.specs.declared.books.Books.{Books}
 use Rattle.accounts.specs.declared.delivery.Delivery.{Delivery}
 use Rattle.accounts.specs.declared.month.Month.{Month}
@@ -98,7 +99,7 @@ pub record Shown (sheet : Sheet) : Type 0 where
 -- what the closing looks at
 pub record Standing (books : Books) (rates : Rates) (yearly : List ℕ) (m1 m2 m3 : Month) (sent taken : Reading) : Type 0 where
   pub unused : Unused books
-  pub rated : (k : ℕ) → k < 6 → get_or rates.published k 0 ≡ rate_at k
+  pub rated : (k : ℕ) → k < 6 → (rates_at rates k).published ≡ rate_at k
   pub year_1 : get_or yearly 0 0 ≡ 1000
   pub year_2 : get_or yearly 1 0 ≡ 100
   pub opened : Opened m1

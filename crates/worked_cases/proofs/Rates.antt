@@ -5,6 +5,7 @@ use Rattle.std.proofs.lemmas.Bool.{true≢false}
 use Rattle.std.proofs.lemmas.Int.{ints}
 use Rattle.methodology.specs.Markets.{three_shape}
 use Rattle.rates.specs.declared.published.Rates.{Rates}
+use Rattle.rates.specs.Heads.{rates_at}
 use Rattle.tariffs.specs.declared.filing.Filing.{Filing}
 use Rattle.tariffs.specs.declared.refusal.TariffFault.{TariffFault}
 use Rattle.tariffs.specs.declared.refusal.TariffFault.TheVariants.{Misfiled, OutOfRange}
@@ -69,10 +70,10 @@ module _ (f : Filing) (t : FirstTariff f) where
         true≢false (sym (head_fits (n - 1) (omega arith)) ∙ ap (λ m. fits_at three_shape f es m) same ∙ p.1.here)
 
     -- and these are its rates
-    pub rates_are : (rates : Rates) → Publishes three_shape f es (Ok rates) → (k : ℕ) → k < 6 → get_or rates.published k 0 ≡ rate_at k
+    pub rates_are : (rates : Rates) → Publishes three_shape f es (Ok rates) → (k : ℕ) → k < 6 → (rates_at rates k).published ≡ rate_at k
     rates_are rates p k h =
         let here = p.1.rated (k + 1) (omega arith, omega arith) in
         let place : k + 1 - 1 ≡ k = omega arith in
-        let rate : pos (get_or rates.published k 0) ≡ pos (rate_at k) =
-        ap (λ n. pos (get_or rates.published n 0)) (sym place) ∙ here.published_is ∙ ap (λ z. published_rate three_shape f z (k + 1)) (none k h) ∙ (rated k h).rate_is in
+        let rate : pos (rates_at rates k).published ≡ pos (rate_at k) =
+        ap (λ n. pos (rates_at rates n).published) (sym place) ∙ here.published_is ∙ ap (λ z. published_rate three_shape f z (k + 1)) (none k h) ∙ (rated k h).rate_is in
         omega (arith, ints)

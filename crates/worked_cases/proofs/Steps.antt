@@ -5,6 +5,7 @@ use Rattle.std.proofs.lemmas.Int.{ints}
 use Rattle.metering.specs.declared.reading.Reading.{Reading}
 use Rattle.methodology.specs.Markets.{three_shape, three_meaning}
 use Rattle.banks.specs.Rows.{at_place}
+use Rattle.rates.specs.Heads.{rates_at}
 use Rattle.accounts.specs.declared.books.Books.{Books}
 use Rattle.accounts.specs.declared.month.Month.{Month}
 use Rattle.accounts.specs.declared.sheet.Sheet.{Sheet}
@@ -75,7 +76,7 @@ pub record Open (v : View) : Type 0 where
   pub unused : Unused (books_of v)
   pub filed : Filed v
   pub stage_is : v.ledger.stage ≡ InMonth 1
-  pub rated : (k : ℕ) → k < 6 → get_or v.ledger.rates.published k 0 ≡ rate_at k
+  pub rated : (k : ℕ) → k < 6 → (rates_at v.ledger.rates k).published ≡ rate_at k
 
 pub record AfterTariff (v : View) : Type 0 where
   pub fresh : Fresh v

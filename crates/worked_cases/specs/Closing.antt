@@ -1,6 +1,7 @@
 -- The worked case of an interval's closing in the two-interval market, by the definitions.
-use Rattle.std.specs.Prelude.{◌≡◌, ℕ, ◌<◌, pos, slice_index}
+use Rattle.std.specs.Prelude.{◌≡◌, ℕ, ◌<◌, pos}
 use Rattle.methodology.specs.Markets.{two_shape, two_meaning}
+use Rattle.rates.specs.Heads.{rates_at}
 use Rattle.accounts.specs.Rules.{rules_of}
 use Rattle.settlement.specs.Closing.{Case, unit, rest, sent, quantity, supply, margin, actual, carry}
 
@@ -12,7 +13,7 @@ pub record Given (c : Case) (k : ℕ) : Type 0 where
   pub rest_is : rest c k ≡ 0
   pub sent_is : sent c k ≡ 30
   pub delivered_is : quantity c k ≡ 28
-  pub factor_is : slice_index c.rates.factors k ≡ 50000
+  pub factor_is : (rates_at c.rates k).factor ≡ 50000
 
 pub record Found (c : Case) (k : ℕ) : Type 0 where
   pub supply_is : supply c k ≡ 29

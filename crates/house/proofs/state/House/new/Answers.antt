@@ -10,7 +10,7 @@ returns g c =
           record {
             stage_is = refl;
             no_year = c.none.ensures;
-            no_tariff = λ k. (c.unset.ensures.none k).0;
+            no_tariff = c.unset.ensures.none;
             unused = c.new.ensures;
             opened = c.open.ensures;
             money = c.new-2.ensures;

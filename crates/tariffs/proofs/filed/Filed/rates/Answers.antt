@@ -1,4 +1,4 @@
-use Rattle.std.proofs.Common.{◌≡◌, ℕ, subst, arith}
+use Rattle.std.proofs.Common.{◌≡◌, ℕ, refl, subst, arith}
 use Rattle.methodology.specs.Heads.{heads_of}
 use Rattle.tariffs.proofs.Filling.{RatedTo, rated_all}
 use Rattle.tariffs.proofs.filed.Filed.rates.Goals as goal
@@ -7,8 +7,7 @@ pub returns : goal.returns
 returns c =
     let filed = c.args.self.now in
     let earlier = c.args.earlier.now in
-    let rated = c.loop-place.rated in
-    let is = c.rates_of.ensures in
+    let heads = c.loop-place.heads in
     let ended : c.loop-place.place ≡ heads_of filed.shape = omega (arith, c.heads.ensures.value) in
-    let all = subst (λ (k : ℕ). RatedTo filed.shape filed.filing earlier k rated) ended c.loop-place.invariant in
-    (filed.fitting, rated_all filed.shape filed.filing earlier c.rates_of.result rated is.heads is.published is.base is.factors all)
+    let all = subst (λ (k : ℕ). RatedTo filed.shape filed.filing earlier k heads) ended c.loop-place.invariant in
+    (filed.fitting, rated_all filed.shape filed.filing earlier _ refl all)
