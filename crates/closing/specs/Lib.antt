@@ -1,4 +1,5 @@
 pub mod Limits
 pub mod Cases
 pub mod Findings
+pub mod Heads
 pub mod Bills

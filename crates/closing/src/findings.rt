@@ -1,38 +1,37 @@
 // What a closing finds, head by head.
-ghost use Rattle.std.specs.Prelude.{◌<◌};
-ghost use Rattle.methodology.specs.Limits.{head_limit};
+ghost use Rattle.std.specs.Prelude.{◌≡◌, ◌<◌};
 ghost use Rattle.accounts.specs.Sums.{Never};
 ghost use Rattle.settlement.specs.Closing.{heads, Empty, Unsupplied};
 ghost use Rattle.closing.specs.Cases.{shows};
 ghost use Rattle.closing.specs.Findings.{Found, AllFound};
+ghost use Rattle.closing.specs.Heads.{seen_in};
 
 use crate::case::Case;
 use crate::finding::Finding;
+use crate::found::{Findings, FoundHead};
+use crate::head::CaseHead;
 use crate::quantities::{difference_of, divided};
-use crate::spreading::spread_of;
 use methodology::Methodology;
 use rates::HEADS;
 use std::array;
 
 impl<M: Methodology> Case<'_, M> {
-    // What is found for a head.
+    // What is found for the head at a place.
     fn finding(&self, k: usize) -> Finding
-        requires place { k < head_limit }
+        requires place { k < heads (shows M.Methodology self.now) }
         requires some { Empty (shows M.Methodology self.now) k → ⊥ }
         requires supplied { Unsupplied (shows M.Methodology self.now) k → ⊥ }
         ensures { Found (shows M.Methodology self.now) k result }
     {
-        let quantity = self.quantity(k);
-        let pool = self.pool(k);
-        let sent = self.month.sent[k];
-        let rates = self.rates(k);
-        let spread = spread_of(self.methodology, k, pool, sent, quantity, rates.factor);
-        let (actual, carry) = divided(u128::from(spread.amount), quantity);
+        let head = CaseHead { case: self, k };
+        let quantity = head.quantity();
+        let spread = head.spread();
+        let (actual, carry) = divided(spread.amount, quantity);
         Finding {
-            actual: actual as u64,
+            actual,
             carry,
             margin: spread.margin,
-            difference: difference_of(quantity, actual as u64, rates.published),
+            difference: difference_of(quantity, actual, head.rates().published),
         }
     }
 
@@ -51,5 +50,19 @@ impl<M: Methodology> Case<'_, M> {
             difference: 0,
         };
         array::from_fn(|k| if k < heads { self.finding(k) } else { none })
+    }
+}
+
+impl<M: Methodology> Findings<'_, M> {
+    // The head at a place, with its finding.
+    pub fn at(&self, k: usize) -> FoundHead<'_, M>
+        requires { k < heads (seen_in self.now) }
+        ensures case { result.head.case.now ≡ self.now.case.now }
+        ensures place { result.head.k ≡ k }
+    {
+        FoundHead {
+            head: self.case.at(k),
+            finding: self.heads[k],
+        }
     }
 }

@@ -3,8 +3,11 @@
 
 mod bills;
 mod case;
+mod figures;
 mod finding;
 mod findings;
+mod found;
+mod head;
 mod month;
 mod pools;
 mod quantities;

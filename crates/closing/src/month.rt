@@ -1,39 +1,35 @@
 // The closing of a month.
-ghost use Rattle.accounts.specs.Sums.{Never};
 ghost use Rattle.accounts.specs.Rules.{rules_of};
-ghost use Rattle.settlement.specs.Closing.{case_of, heads, Past};
+ghost use Rattle.settlement.specs.Closing.{case_of};
 ghost use Rattle.settlement.specs.Closed.{Answer, Closed};
 ghost use Rattle.settlement.specs.Law.{LawfulIfAccepted, EveryClosing};
-ghost use Rattle.closing.specs.Cases.{shows};
-ghost use Rattle.closing.specs.Findings.{AllFound};
+ghost use Rattle.closing.specs.Heads.{seen_in};
 
 use crate::bills::fractions_after;
 use crate::case::Case;
-use crate::finding::Finding;
+use crate::found::{Accepted, Findings};
 use accounts::{Books, Month, Sheet};
 use methodology::Methodology;
-use rates::{HEADS, Rates, Revenues};
+use rates::{Rates, Revenues};
 use settlement::CloseFault;
 
-impl<M: Methodology> Case<'_, M> {
-    // Fills in the sheet of a month that no test refuses. The books are those after the closing.
-    fn accept(&self, findings: &[Finding; HEADS], sheet: &mut Sheet) -> Books
-        requires found { AllFound (shows M.Methodology self.now) findings.now }
-        requires within { Never (Past (shows M.Methodology self.now)) (heads (shows M.Methodology self.now)) }
-        ensures { Closed (shows M.Methodology self.now) sheet.new result }
+impl<M: Methodology> Accepted<'_, M> {
+    // Fills in the sheet. The books are those after the closing.
+    fn fill(&self, sheet: &mut Sheet) -> Books
+        ensures { Closed (seen_in self.now.findings) sheet.new result }
     {
-        let accounts = self.accounts_after(findings);
-        let licensees = self.bills();
-        let fractions = fractions_after(&licensees, &self.books.fractions);
+        let case = self.findings.case;
+        let licensees = case.bills();
+        let fractions = fractions_after(&licensees, &case.books.fractions);
         *sheet = Sheet {
-            month: self.number,
+            month: case.number,
             shape: M::shape(),
-            heads: self.lines(&accounts, findings),
+            heads: self.lines(),
             licensees,
-            margin: self.margin(findings),
+            margin: self.findings.margin(),
         };
         Books {
-            accounts,
+            accounts: self.accounts(),
             fractions,
         }
     }
@@ -73,14 +69,17 @@ pub fn close<M: Methodology>(
     if let Some(head) = case.first_unsupplied() {
         return Err(CloseFault::Supply(head));
     }
-    let findings = case.findings();
-    if let Some(head) = case.first_over(&findings) {
+    let findings = Findings {
+        case: &case,
+        heads: case.findings(),
+    };
+    if let Some(head) = findings.first_over() {
         return Err(CloseFault::RateOverLimit(head));
     }
-    if let Some(head) = case.first_past(&findings) {
+    if let Some(head) = findings.first_past() {
         return Err(CloseFault::BalancePast(head));
     }
-    let after = case.accept(&findings, sheet);
+    let after = Accepted { findings }.fill(sheet);
     *books = after;
     Ok(())
 }

@@ -3,12 +3,12 @@ ghost use Rattle.std.specs.Prelude.{◌≡◌, ◌/◌, ◌%◌, ◌<◌, ◌≤
 ghost use Rattle.methodology.specs.Limits.{head_limit};
 ghost use Rattle.accounts.specs.Limits.{month_energy_limit, carry_limit};
 ghost use Rattle.accounts.specs.Months.{taken};
-ghost use Rattle.settlement.specs.Closing.{heads, quantity_in, quantity};
-ghost use Rattle.closing.specs.Cases.{shows};
+ghost use Rattle.settlement.specs.Closing.{quantity};
+ghost use Rattle.closing.specs.Heads.{at_head};
 ghost use Rattle.closing.specs.Limits.{difference_limit};
 
-use crate::case::Case;
-use accounts::{Delivery, Month};
+use crate::head::CaseHead;
+use accounts::Delivery;
 use arith::split;
 use methodology::Methodology;
 
@@ -21,41 +21,24 @@ fn taken_by(licensee: &Option<Delivery>, k: usize) -> u64
     licensee.map_or(0, |delivery| delivery.taken[k])
 }
 
-// A head's quantity.
-fn quantity_of(month: &Month, k: usize) -> u64
-    requires { k < head_limit }
-    ensures value { result ≡ quantity_in month.now k }
-    ensures most { result ≤ carry_limit }
-{
-    let mut sum = 0;
-    for licensee in &month.licensees {
-        sum += taken_by(licensee, k);
-    }
-    sum
-}
-
-impl<M: Methodology> Case<'_, M> {
-    // How many heads there are.
-    pub fn heads(&self) -> usize
-        ensures value { result ≡ heads (shows M.Methodology self.now) }
-        ensures few { result ≤ head_limit }
-    {
-        M::shape().heads()
-    }
-
-    // A head's quantity. A head goes by its place k, from 0.
+impl<M: Methodology> CaseHead<'_, M> {
+    // A head's quantity: what the licensees took, added up.
     #[tactic(auto, unfolding(settlement::specs::Closing::quantity))]
-    pub fn quantity(&self, k: usize) -> u64
-        requires { k < head_limit }
-        ensures value { result ≡ quantity (shows M.Methodology self.now) k }
+    pub fn quantity(&self) -> u64
+        ensures value { result ≡ at_head quantity self.now }
         ensures most { result ≤ carry_limit }
     {
-        quantity_of(self.month, k)
+        // No `sum`: what a closure gives has no bound that is found.
+        let mut sum = 0;
+        for licensee in &self.case.month.licensees {
+            sum += taken_by(licensee, self.k);
+        }
+        sum
     }
 }
 
 // An amount over a quantity that is there, and what is left over.
-pub fn divided(amount: u128, quantity: u64) -> (u128, u64)
+pub fn divided(amount: u64, quantity: u64) -> (u64, u64)
     requires { 0 < quantity }
     ensures rate { result.0 ≡ amount / quantity }
     ensures rest { result.1 ≡ amount % quantity }
@@ -69,6 +52,5 @@ pub fn difference_of(quantity: u64, actual: u64, published: u64) -> i128
     ensures value { result ≡ pos quantity *ℤ (pos actual -ℤ pos published) }
     ensures size { unsigned_abs result ≤ difference_limit }
 {
-    (u128::from(quantity) * u128::from(actual)) as i128
-        - (u128::from(quantity) * u128::from(published)) as i128
+    i128::from(quantity) * (i128::from(actual) - i128::from(published))
 }

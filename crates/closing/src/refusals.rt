@@ -1,36 +1,16 @@
 // The tests of a month, each over all heads. A head is told by its number, which counts from 1.
-ghost use Rattle.std.specs.Prelude.{◌≡◌, ℕ, ◌<◌, ◌≤◌, true, false, ◌+ℤ◌, unsigned_abs};
-ghost use Rattle.methodology.specs.Limits.{head_limit};
-ghost use Rattle.accounts.specs.Limits.{balance_limit};
-ghost use Rattle.settlement.specs.Closing.{limit_of, Empty, Unsupplied, Over, Past};
+ghost use Rattle.std.specs.Prelude.{◌≡◌, ℕ, ◌<◌, true, false};
+ghost use Rattle.settlement.specs.Closing.{balance, Empty, Unsupplied, Over, Past};
 ghost use Rattle.closing.specs.Cases.{shows, Searched, Told};
-ghost use Rattle.closing.specs.Findings.{Found, AllFound, finding_at};
+ghost use Rattle.closing.specs.Heads.{at_head, seen_in};
 
 use crate::case::Case;
-use crate::finding::Finding;
-use accounts::Account;
-use methodology::{Methodology, Shape};
-use rates::HEADS;
+use crate::found::{Findings, FoundHead};
+use crate::head::CaseHead;
+use methodology::Methodology;
 
 // Most that a balance may be in size, grains.
 const BALANCE_LIMIT: u128 = 4_000_000_000_000_000_000;
-
-// A head's rate limit.
-fn limit_at(shape: &Shape, k: usize) -> u64
-    requires { k < head_limit }
-    ensures { result ≡ limit_of shape.now.revenues k }
-{
-    shape.head(k + 1).rate_limit()
-}
-
-// Whether a balance would pass its limit in size.
-fn passes(account: &Account, found: &Finding) -> bool
-    ensures over { result ≡ true → balance_limit < unsigned_abs (account.now.balance +ℤ found.now.difference) }
-    ensures within { result ≡ false → unsigned_abs (account.now.balance +ℤ found.now.difference) ≤ balance_limit }
-{
-    let after = i128::from(account.balance) + found.difference;
-    after.unsigned_abs() > BALANCE_LIMIT
-}
 
 // The number of the first head that a test is true of.
 // No `find`: that asks that the test can be called at any number, and the tests here ask that it is a head's.
@@ -46,65 +26,71 @@ fn first_head<F: Fn(usize) -> bool>(heads: usize, test: F) -> Option<usize>
     None
 }
 
-impl<M: Methodology> Case<'_, M> {
+impl<M: Methodology> CaseHead<'_, M> {
     // Whether an interval's energy sent in is under what was delivered, or over twice that.
-    fn is_unsupplied(&self, k: usize) -> bool
-        requires { k < head_limit }
-        ensures misfit { result ≡ true → Unsupplied (shows M.Methodology self.now) k }
-        ensures fitting { result ≡ false → Unsupplied (shows M.Methodology self.now) k → ⊥ }
+    fn is_unsupplied(&self) -> bool
+        ensures misfit { result ≡ true → at_head Unsupplied self.now }
+        ensures fitting { result ≡ false → at_head Unsupplied self.now → ⊥ }
     {
-        let delivered = self.quantity(k);
-        let sent = self.month.sent[k];
-        k > M::shape().revenues && (sent < delivered || sent > 2 * delivered)
+        let delivered = self.quantity();
+        let sent = self.sent();
+        !self.is_demand() && (sent < delivered || sent > 2 * delivered)
+    }
+}
+
+impl<M: Methodology> FoundHead<'_, M> {
+    // Whether the actual rate passes its limit.
+    fn is_over(&self) -> bool
+        ensures over { result ≡ true → at_head Over self.now.head }
+        ensures within { result ≡ false → at_head Over self.now.head → ⊥ }
+    {
+        self.finding.actual > self.head.rate_limit()
     }
 
-    // Whether an actual rate passes its limit.
-    fn is_over(&self, findings: &[Finding; HEADS], k: usize) -> bool
-        requires place { k < head_limit }
-        requires found { Found (shows M.Methodology self.now) k (finding_at findings.now k) }
-        ensures over { result ≡ true → Over (shows M.Methodology self.now) k }
-        ensures within { result ≡ false → Over (shows M.Methodology self.now) k → ⊥ }
+    // The balance after the closing.
+    pub fn balance(&self) -> i128
+        ensures { result ≡ at_head balance self.now.head }
     {
-        findings[k].actual > limit_at(&M::shape(), k)
+        i128::from(self.head.account().balance) + self.finding.difference
     }
 
-    // Whether a balance would pass its limit in size.
-    fn is_past(&self, findings: &[Finding; HEADS], k: usize) -> bool
-        requires place { k < head_limit }
-        requires found { Found (shows M.Methodology self.now) k (finding_at findings.now k) }
-        ensures over { result ≡ true → Past (shows M.Methodology self.now) k }
-        ensures within { result ≡ false → Past (shows M.Methodology self.now) k → ⊥ }
+    // Whether the balance would pass its limit in size.
+    fn is_past(&self) -> bool
+        ensures over { result ≡ true → at_head Past self.now.head }
+        ensures within { result ≡ false → at_head Past self.now.head → ⊥ }
     {
-        passes(&self.account(k), &findings[k])
+        self.balance().unsigned_abs() > BALANCE_LIMIT
     }
+}
 
+impl<M: Methodology> Case<'_, M> {
     // The first head that has no quantity.
     pub fn first_empty(&self) -> Option<usize>
         ensures { Searched (shows M.Methodology self.now) Empty result }
     {
-        first_head(self.heads(), |k| self.quantity(k) == 0)
+        first_head(self.heads(), |k| self.at(k).quantity() == 0)
     }
 
     // The first interval whose energy sent in does not fit what was delivered.
     pub fn first_unsupplied(&self) -> Option<usize>
         ensures { Searched (shows M.Methodology self.now) Unsupplied result }
     {
-        first_head(self.heads(), |k| self.is_unsupplied(k))
+        first_head(self.heads(), |k| self.at(k).is_unsupplied())
     }
+}
 
+impl<M: Methodology> Findings<'_, M> {
     // The first head whose actual rate passes its limit.
-    pub fn first_over(&self, findings: &[Finding; HEADS]) -> Option<usize>
-        requires { AllFound (shows M.Methodology self.now) findings.now }
-        ensures { Searched (shows M.Methodology self.now) Over result }
+    pub fn first_over(&self) -> Option<usize>
+        ensures { Searched (seen_in self.now) Over result }
     {
-        first_head(self.heads(), |k| self.is_over(findings, k))
+        first_head(self.case.heads(), |k| self.at(k).is_over())
     }
 
     // The first head whose balance would pass its limit in size.
-    pub fn first_past(&self, findings: &[Finding; HEADS]) -> Option<usize>
-        requires { AllFound (shows M.Methodology self.now) findings.now }
-        ensures { Searched (shows M.Methodology self.now) Past result }
+    pub fn first_past(&self) -> Option<usize>
+        ensures { Searched (seen_in self.now) Past result }
     {
-        first_head(self.heads(), |k| self.is_past(findings, k))
+        first_head(self.case.heads(), |k| self.at(k).is_past())
     }
 }

@@ -1,10 +1,10 @@
 // What a head spreads over its quantity.
-ghost use Rattle.std.specs.Prelude.{◌≡◌, ◌*◌, ◌<◌, ◌≤◌, pos, if◌then◌else◌, nat_le, unsigned_abs};
-ghost use Rattle.methodology.specs.Limits.{supply_limit, factor_limit};
-ghost use Rattle.methodology.specs.Meaning.{OneToTwo};
-ghost use Rattle.closing.specs.Limits.{pool_limit};
-ghost use Rattle.closing.specs.Findings.{spread_of, margin_of};
+ghost use Rattle.std.specs.Prelude.{◌≡◌, ◌+◌, ◌*◌, ◌≤◌, pos, ◌-ℤ◌, ◌*ℤ◌};
+ghost use Rattle.settlement.specs.Closing.{sent, unit, rest, supply, spread, margin, Empty, Unsupplied};
+ghost use Rattle.closing.specs.Findings.{Modest};
+ghost use Rattle.closing.specs.Heads.{at_head, Supplied};
 
+use crate::head::CaseHead;
 use crate::quantities::divided;
 use methodology::Methodology;
 
@@ -15,49 +15,49 @@ pub struct Spread {
     pub margin: i64,
 }
 
-// What an interval spreads, and its margin: its unit cost for the energy sent in that is not allowed supply.
-fn interval_spread<M: Methodology>(
-    m: &M,
-    pool: u64,
-    sent: u64,
-    delivered: u64,
-    factor: u32,
-) -> Spread
-    requires ratio { (0 < delivered) × (OneToTwo delivered sent) }
-    requires limits { (sent ≤ supply_limit) × ((factor ≤ factor_limit) × (pool ≤ pool_limit)) }
-    ensures value { result.amount ≡ spread_of pool sent ((M.meaning m.now).allowed sent delivered factor) }
-    ensures margin { result.margin ≡ margin_of pool sent ((M.meaning m.now).allowed sent delivered factor) }
-    ensures size { unsigned_abs result.margin ≤ pool }
-{
-    let supply = m.allowed_supply(sent, delivered, factor);
-    let (unit, rest) = divided(u128::from(pool), sent);
-    let billed = unit as u64 * supply;
-    Spread {
-        amount: billed + rest,
-        margin: (unit as u64 * sent) as i64 - billed as i64,
+impl<M: Methodology> CaseHead<'_, M> {
+    // The supply of an interval that its price may cover, kWh.
+    fn supply(&self) -> u64
+        requires { at_head Supplied self.now }
+        ensures value { result ≡ at_head supply self.now }
+        ensures most { result ≤ 2 * at_head sent self.now }
+    {
+        self.case
+            .methodology
+            .allowed_supply(self.sent(), self.quantity(), self.rates().factor)
     }
-}
 
-// What a head spreads, and its margin; one that is billed by demand spreads its whole pool.
-pub fn spread_of<M: Methodology>(
-    m: &M,
-    k: usize,
-    pool: u64,
-    sent: u64,
-    delivered: u64,
-    factor: u32,
-) -> Spread
-    requires ratio { (0 < delivered) × ((M.shape.revenues < k → OneToTwo delivered sent)) }
-    requires limits { (sent ≤ supply_limit) × ((factor ≤ factor_limit) × (pool ≤ pool_limit)) }
-    ensures value { result.amount ≡ (if nat_le k M.shape.revenues then pool else spread_of pool sent ((M.meaning m.now).allowed sent delivered factor)) }
-    ensures margin { result.margin ≡ (if nat_le k M.shape.revenues then pos 0 else margin_of pool sent ((M.meaning m.now).allowed sent delivered factor)) }
-    ensures size { unsigned_abs result.margin ≤ (if nat_le k M.shape.revenues then 0 else pool) }
-{
-    if k <= M::shape().revenues {
-        return Spread {
-            amount: pool,
-            margin: 0,
-        };
+    // What an interval spreads, and its margin: its unit cost for the energy sent in that is not allowed supply.
+    fn interval_spread(&self) -> Spread
+        requires { at_head Supplied self.now }
+        ensures value { result.amount ≡ at_head unit self.now * at_head supply self.now + at_head rest self.now }
+        ensures margin { result.margin ≡ pos (at_head unit self.now) *ℤ (pos (at_head sent self.now) -ℤ pos (at_head supply self.now)) }
+        ensures modest { at_head Modest self.now result.margin }
+    {
+        let sent = self.sent();
+        let (unit, rest) = divided(self.pool(), sent);
+        let billed = unit * self.supply();
+        Spread {
+            amount: billed + rest,
+            // Both fit: one is at most the pool, the other at most twice that.
+            margin: (unit * sent) as i64 - billed as i64,
+        }
     }
-    interval_spread(m, pool, sent, delivered, factor)
+
+    // What a head spreads, and its margin; one that is billed by demand spreads its whole pool.
+    pub fn spread(&self) -> Spread
+        requires some { at_head Empty self.now → ⊥ }
+        requires supplied { at_head Unsupplied self.now → ⊥ }
+        ensures value { result.amount ≡ at_head spread self.now }
+        ensures margin { result.margin ≡ at_head margin self.now }
+        ensures modest { at_head Modest self.now result.margin }
+    {
+        if self.is_demand() {
+            return Spread {
+                amount: self.pool(),
+                margin: 0,
+            };
+        }
+        self.interval_spread()
+    }
 }
