@@ -11,4 +11,4 @@ pub use limits::{CENT, MONEY_LIMIT};
 pub use money::Money;
 pub use order::{Paid, PayOrder, Returned};
 pub use till::Till;
-pub use till::refusal::TillRefusal;
+pub use till::refusal::{RETURNED, TillRefusal};

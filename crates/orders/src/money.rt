@@ -1,5 +1,5 @@
 // The money of one place.
-ghost use Rattle.std.specs.Prelude.{◌≡◌, ◌+◌, ◌*◌, ◌≤◌, nat_le};
+ghost use Rattle.std.specs.Prelude.{◌≡◌, ◌+◌, ◌*◌, ◌≤◌, nat_le, is_some, IfSome};
 ghost use Rattle.orders.specs.Limits.{cent, money_limit};
 
 use crate::limits::{CENT, MONEY_LIMIT};
@@ -14,6 +14,7 @@ pub struct Money {
 }
 
 impl Money {
+    // No money. There is no `Default`, since a struct with a ghost field has no derive of it.
     pub(crate) fn none() -> Money
         ensures { (result.standing ≡ 0) × (result.on_orders ≡ 0) }
     {
@@ -23,11 +24,16 @@ impl Money {
         }
     }
 
-    // Whether so many grains more may come to it.
-    pub(crate) fn has_room(self, grains: u128) -> bool
-        ensures { result ≡ nat_le (grains + (self.standing + cent * self.on_orders)) money_limit }
+    // It with so many grains more standing, where that keeps the limit.
+    pub(crate) fn with(self, grains: u128) -> Option<Money>
+        ensures room { is_some result ≡ nat_le (grains + (self.standing + cent * self.on_orders)) money_limit }
+        ensures more { IfSome result (λ m. (m.standing ≡ self.standing + grains) × (m.on_orders ≡ self.on_orders)) }
     {
-        let held = self.standing + CENT * self.on_orders;
-        grains.saturating_add(u128::from(held)) <= u128::from(MONEY_LIMIT)
+        let room = MONEY_LIMIT - (self.standing + CENT * self.on_orders);
+        let grains = u64::try_from(grains).ok().filter(|grains| *grains <= room)?;
+        Some(Money {
+            standing: self.standing + grains,
+            on_orders: self.on_orders,
+        })
     }
 }

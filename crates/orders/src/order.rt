@@ -3,12 +3,14 @@ ghost use Rattle.std.specs.Prelude.{◌≡◌, ◌<◌, ◌≤◌};
 ghost use Rattle.orders.specs.Limits.{place_limit, returned_number};
 
 use crate::place::Place;
+use crate::till::refusal::RETURNED;
 
 // An order to pay a station. Whoever has one in hand must see it released or held: it cannot be let go.
 pub struct PayOrder {
     serial: u64,
     place: u8,
     cents: u64,
+    // `Place` has this fact too, and is no field here: ledger's definitions speak of the order's number.
     ghost placed: { (1 ≤ place) × (place ≤ place_limit) },
 }
 
@@ -97,6 +99,6 @@ impl Returned {
     pub fn number(&self) -> u8
         ensures { result ≡ returned_number }
     {
-        22
+        RETURNED
     }
 }

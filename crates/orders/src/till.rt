@@ -8,6 +8,7 @@ pub mod calls;
 pub mod refusal;
 
 // Most places: as many as stations can be told apart by.
+// By `as`, since `from` cannot be called in a constant.
 pub const PLACES: usize = metering::PLACES as usize;
 
 #[derive(Drop)]

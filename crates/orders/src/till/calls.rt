@@ -38,17 +38,14 @@ impl Till {
     pub fn money(&self, place: u8) -> Money
         ensures { 1 ≤ place → (result.standing ≡ stands self.now place) × (result.on_orders ≡ ordered_at self.now place) }
     {
-        match Place::numbered(place) {
-            Some(place) => self.at(place),
-            None => Money::none(),
-        }
+        Place::try_from(place).map_or(Money::none(), |place| self.at(place))
     }
 
     // Whether so many grains more may come to a place.
     pub fn has_room(&self, place: u8, grains: u128) -> bool
         ensures { result ≡ is_place place && room self.now place grains }
     {
-        Place::numbered(place).is_some_and(|place| self.at(place).has_room(grains))
+        Place::try_from(place).is_ok_and(|place| self.at(place).with(grains).is_some())
     }
 
     // Puts other money at a place.
@@ -62,19 +59,9 @@ impl Till {
     pub fn credit(&mut self, place: u8, grains: u128) -> Result<(), TillRefusal>
         ensures { Credits self.old place grains result self.new }
     {
-        let place = Place::numbered(place).ok_or(TillRefusal::NoPlace)?;
-        let money = self.at(place);
-        if !money.has_room(grains) {
-            return Err(TillRefusal::TooMuch);
-        }
-        // What a place has room for fits 64 bits, so the cast loses nothing.
-        self.put(
-            place,
-            Money {
-                standing: money.standing + grains as u64,
-                on_orders: money.on_orders,
-            },
-        );
+        let place = Place::try_from(place)?;
+        let money = self.at(place).with(grains).ok_or(TillRefusal::TooMuch)?;
+        self.put(place, money);
         Ok(())
     }
 
@@ -82,7 +69,7 @@ impl Till {
     pub fn draw(&mut self, place: u8) -> Result<PayOrder, TillRefusal>
         ensures { Draws self.old place result self.new }
     {
-        let place = Place::numbered(place).ok_or(TillRefusal::NoPlace)?;
+        let place = Place::try_from(place)?;
         let money = self.at(place);
         let cents = money.standing / CENT;
         if cents == 0 {

@@ -2,6 +2,9 @@
 ghost use Rattle.std.specs.Prelude.{◌≡◌};
 ghost use Rattle.orders.specs.Refusals.{number_of};
 
+// The number of the refusal of an order that is not taken in: it comes back as `Returned`.
+pub const RETURNED: u8 = 22;
+
 #[derive(Clone, Copy, PartialEq, Eq, Debug)]
 pub enum TillRefusal {
     // There is no such place.

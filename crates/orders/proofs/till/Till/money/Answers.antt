@@ -1,8 +1,7 @@
-use Rattle.std.proofs.Common.{sym, ◌∙◌}
+use Rattle.std.proofs.Common.{arith}
+use Rattle.std.proofs.lemmas.Grind.{common_steps}
 use Rattle.orders.proofs.Places.{beyond}
 use Rattle.orders.proofs.till.Till.money.Goals as goal
 
-pub returns-in-None : goal.returns-in-None
-returns-in-None c some =
-    let none = beyond c.args.self.now c.args.place some (sym c.in-None.ensures.test) in
-    (c.none.ensures.0 ∙ sym none.0, c.none.ensures.1 ∙ sym none.1)
+pub returns : goal.returns
+returns c some = grind (arith, common_steps, beyond c.args.self.now c.args.place some, c.try_from.ensures, c.map_or.ensures)
