@@ -80,8 +80,18 @@ module _ (shape : Shape) (market : Market) (row : List Meaning) (e : Event) (es 
       let P : Option Sheet → Type 0 = λ o. Carried (some_or o (last_sheet es) Some) (some_or o (last_quantity (rules_of shape market) es k) (λ s. open_quantity (rules_of shape market) es k)) (some_or o (last_carry es k) (λ s. (line_at s k).carry)) in
       subst P (sym none) (before k h)
 
-  -- books with the same money, month and year
-  counted_on : {v w : View} → Counted shape market row es v → ((j : ℕ) → j < shape.revenues → get_or w.ledger.revenues.yearly j 0 ≡ yearly (e ∷ es) j) → income_of (rules_of shape market) (month_of w) ≡ open_dues row (e ∷ es) → ((k : ℕ) → k < head_number shape market row → quantity_in (month_of w) k ≡ open_quantity (rules_of shape market) (e ∷ es) k) → ((k : ℕ) → k < head_number shape market row → (account_at (books_of w) k).balance ≡ (account_at (books_of v) k).balance) → ((k : ℕ) → k < head_number shape market row → (account_at (books_of w) k).carry ≡ (account_at (books_of v) k).carry) → (books_of w).fractions ≡ (books_of v).fractions → Counted shape market row (e ∷ es) w
+  -- what a house has of the year and of the open month after the event
+  abbrev Yearly : View → Type 0
+  Yearly w = (j : ℕ) → j < shape.revenues → get_or w.ledger.revenues.yearly j 0 ≡ yearly (e ∷ es) j
+
+  abbrev Income : View → Type 0
+  Income w = income_of (rules_of shape market) (month_of w) ≡ open_dues row (e ∷ es)
+
+  abbrev Quantities : View → Type 0
+  Quantities w = (k : ℕ) → k < head_number shape market row → quantity_in (month_of w) k ≡ open_quantity (rules_of shape market) (e ∷ es) k
+
+  -- books with the same money
+  counted_on : {v w : View} → Counted shape market row es v → Yearly w → Income w → Quantities w → ((k : ℕ) → k < head_number shape market row → (account_at (books_of w) k).balance ≡ (account_at (books_of v) k).balance) → ((k : ℕ) → k < head_number shape market row → (account_at (books_of w) k).carry ≡ (account_at (books_of v) k).carry) → (books_of w).fractions ≡ (books_of v).fractions → Counted shape market row (e ∷ es) w
   counted_on i years dues quantities balances carries fractions =
       record {
         years = years;
@@ -96,6 +106,12 @@ module _ (shape : Shape) (market : Market) (row : List Meaning) (e : Event) (es 
         account = same_account i.account;
         carries = same_carried i.carries;
       }
+
+  -- the same books
+  counted_by : {v w : View} → Counted shape market row es v → Yearly w → Income w → Quantities w → books_of w ≡ books_of v → Counted shape market row (e ∷ es) w
+  counted_by i years dues quantities books =
+      counted_on i years dues quantities
+      (λ k h. ap (λ b. (account_at b k).balance) books) (λ k h. ap (λ b. (account_at b k).carry) books) (ap (λ (b : Books). b.fractions) books)
 
   no_reading : reading_of e ≡ None → open_dues row (e ∷ es) ≡ open_dues row es
   no_reading unread =
@@ -116,11 +132,11 @@ module _ (shape : Shape) (market : Market) (row : List Meaning) (e : Event) (es 
 -- a call that leaves the year, the month and the books alone
 quiet : (shape : Shape) (market : Market) (row : List Meaning) (e : Event) (es : List Event) {v w : View} → sheet_of e ≡ None → reading_of e ≡ None → delivery_of e ≡ None → year_of e ≡ None → w.ledger.revenues ≡ v.ledger.revenues → month_of w ≡ month_of v → books_of w ≡ books_of v → Counted shape market row es v → Counted shape market row (e ∷ es) w
 quiet shape market row e es none unread untaken unfiled revenues-same month-same books-same i =
-    counted_on shape market row e es none i
+    counted_by shape market row e es none i
     (λ j h. ap (λ (x : _). get_or x.yearly j 0) revenues-same ∙ i.years j h ∙ sym (no_year shape market row e es none unfiled j))
     (ap (income_of (rules_of shape market)) month-same ∙ i.dues ∙ sym (no_reading shape market row e es none unread))
     (λ k h. ap (λ m. quantity_in m k) month-same ∙ i.quantities k h ∙ sym (no_delivery shape market row e es none untaken k))
-    (λ k h. ap (λ b. (account_at b k).balance) books-same) (λ k h. ap (λ b. (account_at b k).carry) books-same) (ap (λ (b : Books). b.fractions) books-same)
+    books-same
 
 -- a call that leaves all alone
 unmoved : (shape : Shape) (market : Market) (row : List Meaning) (e : Event) (es : List Event) {v w : View} → sheet_of e ≡ None → reading_of e ≡ None → delivery_of e ≡ None → year_of e ≡ None → w ≡ v → Counted shape market row es v → Counted shape market row (e ∷ es) w
@@ -136,11 +152,11 @@ at_own shape market row {es} {es'} {v} {w} shape_is market_is step i =
 
 year_step : (row : List Meaning) (es : List Event) {v w : View} (given : Row) (u : Unit {0}) → YearFiled v given w → Counted v.shape v.market row es v → Counted v.shape v.market row (filed given (Ok u) ∷ es) w
 year_step row es {v} {w} given u m i =
-    counted_on v.shape v.market row e es refl i
+    counted_by v.shape v.market row e es refl i
     (λ j h. m.allowed.as_filed j h)
     (ap (income_of (rules v)) (ap month_of m.left) ∙ i.dues ∙ sym (no_reading v.shape v.market row e es refl refl))
     (λ k h. ap (λ x. quantity_in x k) (ap month_of m.left) ∙ i.quantities k h ∙ sym (no_delivery v.shape v.market row e es refl refl k))
-    (λ k h. ap (λ b. (account_at b k).balance) (ap books_of m.left)) (λ k h. ap (λ b. (account_at b k).carry) (ap books_of m.left)) (ap (λ (b : Books). b.fractions) (ap books_of m.left))
+    (ap books_of m.left)
   where
     e : Event
     e = filed given (Ok u)
@@ -168,11 +184,11 @@ taken_from ls k = sum_to (λ l. taken (get_or ls l None) k) licensee_limit
 
 meter_step : (row : List Meaning) (es : List Event) {v w : View} (r : Reading) (u : Unit {0}) → at_place v.row r.number ≡ place_after (at_place row r.number) (accepted_at r.number es) → Metered v r w → Counted v.shape v.market row es v → Counted v.shape v.market row (metered r (Ok u) ∷ es) w
 meter_step row es {v} {w} r u stood m i =
-    counted_on v.shape v.market row e es refl i
+    counted_by v.shape v.market row e es refl i
     (λ j h. ap (λ (x : View). get_or x.ledger.revenues.yearly j 0) m.left ∙ i.years j h)
     (let whole = m.added.whole in let before = i.dues in let due = ap (λ place. worth (dues_at place r)) stood in omega arith)
     (λ k h. ap (λ (ls : List (Option Delivery)). sum_to (λ l. taken (get_or ls l None) k) licensee_limit) m.added.licensees ∙ i.quantities k h ∙ sym (no_delivery v.shape v.market row e es refl refl k))
-    (λ k h. ap (λ b. (account_at b k).balance) (ap books_of m.left)) (λ k h. ap (λ b. (account_at b k).carry) (ap books_of m.left)) (ap (λ (b : Books). b.fractions) (ap books_of m.left))
+    (ap books_of m.left)
   where
     e : Event
     e = metered r (Ok u)
@@ -231,7 +247,7 @@ deliver_passed v r ok =
 
 deliver_step : (row : List Meaning) (es : List Event) {v w : View} (r : Reading) (u : Unit {0}) → deliver_verdict v r ≡ accepted → DeliveryTaken v r w → Counted v.shape v.market row es v → Counted v.shape v.market row (delivered r (Ok u) ∷ es) w
 deliver_step row es {v} {w} r u ok m i =
-    counted_on v.shape v.market row e es refl i
+    counted_by v.shape v.market row e es refl i
     (λ j h. ap (λ (x : View). get_or x.ledger.revenues.yearly j 0) m.left ∙ i.years j h)
     (ap (λ (xs : List ℕ). sum_to (λ k. get_or xs k 0) (head_count (rules v))) m.added.income ∙ i.dues ∙ sym (no_reading v.shape v.market row e es refl refl))
     (λ k h.
@@ -241,7 +257,7 @@ deliver_step row es {v} {w} r u ok m i =
     (took (licensee_at (month_of w) (r.number - 1)) (taken_under (rules v) r) m.added.here k (let most = few v.shape v.market row in omega arith))
     (λ l ne. ap (λ o. taken o k) (m.added.others l ne)) in
     omega arith)
-    (λ k h. ap (λ b. (account_at b k).balance) (ap books_of m.left)) (λ k h. ap (λ b. (account_at b k).carry) (ap books_of m.left)) (ap (λ (b : Books). b.fractions) (ap books_of m.left))
+    (ap books_of m.left)
   where
     e : Event
     e = delivered r (Ok u)

@@ -16,8 +16,9 @@ use Rattle.orders.specs.declared.order.Returned.{Returned}
 use Rattle.orders.specs.declared.till.Till.{Till}
 use Rattle.orders.specs.Limits.{cent}
 use Rattle.orders.specs.Tills.{stands, ordered_at, mine, Puts}
+use Rattle.ledger.specs.declared.kept.Ledger.{Ledger}
 use Rattle.ledger.specs.declared.refusal.Refusal.{Refusal}
-use Rattle.ledger.specs.Views.{View, till_of}
+use Rattle.ledger.specs.Views.{View, till_of, with_ledger}
 use Rattle.ledger.specs.Terms.{worth, dues_at, place_after, given_at}
 use Rattle.ledger.specs.Calls.{Year, Tariff, Meter, Metered, Deliver, Close, Draw, OrderDrawn, Release, Hold}
 use Rattle.ledger.specs.Runs.{Event, filed, priced, metered, delivered, closed, drew, released, held, Among, Presents, own, other, with_drawn, with_presented, Run, new, year, tariff, meter, deliver, close, draw, release, hold}
@@ -44,13 +45,14 @@ module _ (shape : Shape) (market : Market) (row : List Meaning) (serial : ℕ) w
     pub money : (p : ℕ) → 1 ≤ p → Settled shape market row es hand v p
 
   -- a call that leaves bank and till alone
-  still : (e : Event) {es : List Event} {hand : List PayOrder} {v w : View} → reading_of e ≡ None → payment_of e ≡ None → w.shape ≡ v.shape → w.market ≡ v.market → w.row ≡ v.row → till_of w ≡ till_of v → Held es hand v → Held (e ∷ es) hand w
-  still e {es} {hand} {v} {w} read paid shape-same market-same row_same till-same i =
+  still : (e : Event) {es : List Event} {hand : List PayOrder} {v w : View} {l : Ledger} → reading_of e ≡ None → payment_of e ≡ None → w ≡ with_ledger v l → l.till ≡ till_of v → Held es hand v → Held (e ∷ es) hand w
+  still e {es} {hand} {v} {w} read paid left till i =
+      let till-same : till_of w ≡ till_of v = ap till_of left ∙ till in
       record {
-        shape_is = shape-same ∙ i.shape_is;
-        market_is = market-same ∙ i.market_is;
+        shape_is = ap (λ (u : View). u.shape) left ∙ i.shape_is;
+        market_is = ap (λ (u : View). u.market) left ∙ i.market_is;
         serial_is = ap (λ (t : Till). t.serial) till-same ∙ i.serial_is;
-        standing = λ p. ap (λ ms. at_place ms p) row_same ∙ i.standing p ∙ sym (ap (place_after (at_place row p)) (same_accepted p e es read));
+        standing = λ p. ap (λ (u : View). at_place u.row p) left ∙ i.standing p ∙ sym (ap (place_after (at_place row p)) (same_accepted p e es read));
         on = λ p some. ap (λ t. ordered_at t p) till-same ∙ i.on p some;
         bear = i.bear;
         money =
@@ -64,7 +66,7 @@ module _ (shape : Shape) (market : Market) (row : List Meaning) (serial : ℕ) w
 
   -- a call that leaves all alone
   idle : (e : Event) {es : List Event} {hand : List PayOrder} {v w : View} → reading_of e ≡ None → payment_of e ≡ None → w ≡ v → Held es hand v → Held (e ∷ es) hand w
-  idle e read paid same i = still e read paid (ap (λ (u : View). u.shape) same) (ap (λ (u : View). u.market) same) (ap (λ (u : View). u.row) same) (ap till_of same) i
+  idle e {v = v} read paid same i = still e {l = v.ledger} read paid same refl i
 
   meter_step : {es : List Event} {hand : List PayOrder} {v w : View} (r : Reading) (u : Unit {0}) → Held es hand v → Metered v r w → Held (metered r (Ok u) ∷ es) hand w
   meter_step {es} {hand} {v} {w} r u i m =
@@ -161,13 +163,13 @@ module _ (shape : Shape) (market : Market) (row : List Meaning) (serial : ℕ) w
         (λ p ne some. let before = i.on p some in let less = in_hand_less a p in let cents = cents_there o p ne in let put = m.others_on_orders p some ne in omega arith)
 
     -- the order's cents are paid, or stand again
-    spent_step : (e : Event) → reading_of e ≡ None → w.shape ≡ v.shape → w.market ≡ v.market → w.row ≡ v.row → ((p : ℕ) → 1 ≤ p → cent * paid_at p (e ∷ es) + stands (till_of w) p ≡ cent * paid_at p es + stands (till_of v) p + cent * cents_at p o) → Held (e ∷ es) rest w
-    spent_step e read shape-same market-same row_same whole =
+    spent_step : (e : Event) {l : Ledger} → reading_of e ≡ None → w ≡ with_ledger v l → ((p : ℕ) → 1 ≤ p → cent * paid_at p (e ∷ es) + stands (till_of w) p ≡ cent * paid_at p es + stands (till_of v) p + cent * cents_at p o) → Held (e ∷ es) rest w
+    spent_step e read left whole =
         record {
-          shape_is = shape-same ∙ i.shape_is;
-          market_is = market-same ∙ i.market_is;
+          shape_is = ap (λ (u : View). u.shape) left ∙ i.shape_is;
+          market_is = ap (λ (u : View). u.market) left ∙ i.market_is;
           serial_is = m.serial_is ∙ i.serial_is;
-          standing = λ p. ap (λ ms. at_place ms p) row_same ∙ i.standing p ∙ sym (ap (place_after (at_place row p)) (same_accepted p e es read));
+          standing = λ p. ap (λ (u : View). at_place u.row p) left ∙ i.standing p ∙ sym (ap (place_after (at_place row p)) (same_accepted p e es read));
           on = taken_on;
           bear = bear_rest serial a i.bear;
           money =
@@ -181,30 +183,26 @@ module _ (shape : Shape) (market : Market) (row : List Meaning) (serial : ℕ) w
 
   release_step : {es : List Event} {hand rest : List PayOrder} {v w : View} (o : PayOrder) (r : Result Paid Returned) → Held es hand v → Presents serial o hand rest → Release v o r w → Held (released o r ∷ es) (with_presented r hand rest) w
   release_step {es} {v = v} {w = w} o (Ok paid) i h m =
-      spent_step w i (stands (till_of v) o.place) m.released.2 (taken i h m.released.0) (released o (Ok paid)) refl
-      (ap (λ (u : View). u.shape) m.left) (ap (λ (u : View). u.market) m.left) (ap (λ (u : View). u.row) m.left)
+      spent_step w i (stands (till_of v) o.place) m.released.2 (taken i h m.released.0) (released o (Ok paid)) refl m.left
       (by_place (λ p. 1 ≤ p → cent * paid_at p (released o (Ok paid) ∷ es) + stands (till_of w) p ≡ cent * paid_at p es + stands (till_of v) p + cent * cents_at p o) o.place
       (λ some. let put = m.released.2.standing_is in omega arith)
       (λ p ne some. let put = m.released.2.others_stand p some ne in omega arith))
-  release_step {v = v} o (Err back) i h m =
-      still (released o (Err back)) refl refl (ap (λ (u : View). u.shape) m.left) (ap (λ (u : View). u.market) m.left) (ap (λ (u : View). u.row) m.left) m.released.same i
+  release_step o (Err back) i h m = still (released o (Err back)) refl refl m.left m.released.same i
 
   hold_step : {es : List Event} {hand rest : List PayOrder} {v w : View} (o : PayOrder) (r : Result (Unit {0}) Returned) → Held es hand v → Presents serial o hand rest → Hold v o r w → Held (held o r ∷ es) (with_presented r hand rest) w
   hold_step {es} {v = v} {w = w} o (Ok u) i h m =
-      spent_step w i (stands (till_of v) o.place + cent * o.cents) m.held.1 (taken i h m.held.0) (held o (Ok u)) refl
-      (ap (λ (u : View). u.shape) m.left) (ap (λ (u : View). u.market) m.left) (ap (λ (u : View). u.row) m.left)
+      spent_step w i (stands (till_of v) o.place + cent * o.cents) m.held.1 (taken i h m.held.0) (held o (Ok u)) refl m.left
       (by_place (λ p. 1 ≤ p → cent * paid_at p (held o (Ok u) ∷ es) + stands (till_of w) p ≡ cent * paid_at p es + stands (till_of v) p + cent * cents_at p o) o.place
       (λ some. let put = m.held.1.standing_is in let cents = cents_here o in omega arith)
       (λ p ne some. let put = m.held.1.others_stand p some ne in let cents = cents_there o p ne in omega arith))
-  hold_step {v = v} o (Err back) i h m =
-      still (held o (Err back)) refl refl (ap (λ (u : View). u.shape) m.left) (ap (λ (u : View). u.market) m.left) (ap (λ (u : View). u.row) m.left) m.held.same i
+  hold_step o (Err back) i h m = still (held o (Err back)) refl refl m.left m.held.same i
 
   year_step : {es : List Event} {hand : List PayOrder} {v w : View} (given : Row) (r : Result (Unit {0}) Refusal) → Held es hand v → Year v given r w → Held (filed given r ∷ es) hand w
-  year_step given (Ok u) i m = still (filed given (Ok u)) refl refl (ap (λ (u : View). u.shape) m.1.left) (ap (λ (u : View). u.market) m.1.left) (ap (λ (u : View). u.row) m.1.left) (ap till_of m.1.left) i
+  year_step given (Ok u) i m = still (filed given (Ok u)) refl refl m.1.left refl i
   year_step given (Err why) i m = idle (filed given (Err why)) refl refl m.1 i
 
   tariff_step : {es : List Event} {hand : List PayOrder} {v w : View} (given : Filing) (r : Result (Unit {0}) Refusal) → Held es hand v → Tariff v given r w → Held (priced given r ∷ es) hand w
-  tariff_step given (Ok u) i m = still (priced given (Ok u)) refl refl (ap (λ (u : View). u.shape) m.1.left) (ap (λ (u : View). u.market) m.1.left) (ap (λ (u : View). u.row) m.1.left) (ap till_of m.1.left) i
+  tariff_step given (Ok u) i m = still (priced given (Ok u)) refl refl m.1.left refl i
   tariff_step given (Err why) i m = idle (priced given (Err why)) refl refl m.1 i
 
   meters : {es : List Event} {hand : List PayOrder} {v w : View} (given : Reading) (r : Result (Unit {0}) Refusal) → Held es hand v → Meter v given r w → Held (metered given r ∷ es) hand w
@@ -212,11 +210,11 @@ module _ (shape : Shape) (market : Market) (row : List Meaning) (serial : ℕ) w
   meters given (Err why) i m = idle (metered given (Err why)) refl refl m.1 i
 
   deliver_step : {es : List Event} {hand : List PayOrder} {v w : View} (given : Reading) (r : Result (Unit {0}) Refusal) → Held es hand v → Deliver v given r w → Held (delivered given r ∷ es) hand w
-  deliver_step given (Ok u) i m = still (delivered given (Ok u)) refl refl (ap (λ (u : View). u.shape) m.1.left) (ap (λ (u : View). u.market) m.1.left) (ap (λ (u : View). u.row) m.1.left) (ap till_of m.1.left) i
+  deliver_step given (Ok u) i m = still (delivered given (Ok u)) refl refl m.1.left refl i
   deliver_step given (Err why) i m = idle (delivered given (Err why)) refl refl m.1 i
 
   close_step : {es : List Event} {hand : List PayOrder} {v w : View} (readings deliveries : ℕ) (s s' : Sheet) (r : Result (Unit {0}) Refusal) → Held es hand v → Close v readings deliveries s r w s' → Held (closed readings deliveries s r s' ∷ es) hand w
-  close_step readings deliveries s s' (Ok u) i m = still (closed readings deliveries s (Ok u) s') refl refl (ap (λ (u : View). u.shape) m.1.left) (ap (λ (u : View). u.market) m.1.left) (ap (λ (u : View). u.row) m.1.left) (ap till_of m.1.left) i
+  close_step readings deliveries s s' (Ok u) i m = still (closed readings deliveries s (Ok u) s') refl refl m.1.left refl i
   close_step readings deliveries s s' (Err why) i m = idle (closed readings deliveries s (Err why) s') refl refl m.1 i
 
   draws : {es : List Event} {hand : List PayOrder} {v w : View} (p : ℕ) (r : Result PayOrder Refusal) → Held es hand v → Draw v p r w → Held (drew p r ∷ es) (with_drawn r hand) w

@@ -35,11 +35,11 @@ impl Refusal {
         ensures { result ≡ head_of self }
     {
         match self {
-            Refusal::RateOutOfRange(head) => Some(head),
-            Refusal::NoQuantity(head) => Some(head),
-            Refusal::Supply(head) => Some(head),
-            Refusal::RateOverLimit(head) => Some(head),
-            Refusal::BalancePast(head) => Some(head),
+            Refusal::RateOutOfRange(head)
+            | Refusal::NoQuantity(head)
+            | Refusal::Supply(head)
+            | Refusal::RateOverLimit(head)
+            | Refusal::BalancePast(head) => Some(head),
             _ => None,
         }
     }
