@@ -1,6 +1,7 @@
 -- What a pay desk answers for an order, and what the till then shows.
 use Rattle.std.specs.Prelude.{◌≡◌, ℕ, ◌+◌, ◌-◌, ◌*◌, ◌/◌, ◌%◌, ◌<◌, ◌≤◌, ◌==◌, ◌&&◌, Bool, true, false, nat_le, Ok, Err, Result}
 use Rattle.orders.specs.declared.order.PayOrder.{PayOrder}
+use Rattle.orders.specs.declared.order.Paid.{Paid}
 use Rattle.orders.specs.declared.order.Returned.{Returned}
 use Rattle.orders.specs.Limits.{cent, returned_number}
 use Rattle.orders.specs.Tills.{stands, ordered_at, mine, Puts}
@@ -24,19 +25,25 @@ Pays v o w = Moved v o.place (stands (till_of v) o.place) (ordered_at (till_of v
 abbrev pub Keeps : View → PayOrder → View → Type 0
 Keeps v o w = Moved v o.place (stands (till_of v) o.place + cent * o.cents) (ordered_at (till_of v) o.place - o.cents) w
 
+-- what is told of an order are its place and its cents
+abbrev pub Of : PayOrder → Paid → Type 0
+Of o paid = (paid.place ≡ o.place) × (paid.cents ≡ o.cents)
+
 -- an order of the house's own is put off, and another is handed back
 abbrev pub PutsOff : View → PayOrder → Result Settled Returned → View → Type 0
-PutsOff v o (Ok s) w = (mine (till_of v) o ≡ true) × (s ≡ Held o.place o.cents) × Keeps v o w
+PutsOff v o (Ok (Held paid)) w = (mine (till_of v) o ≡ true) × Of o paid × Keeps v o w
+PutsOff v o (Ok (Released paid)) w = ⊥
+PutsOff v o (Ok (TurnedAway number paid)) w = ⊥
 PutsOff v o (Err back) w = (mine (till_of v) o ≡ false) × (back.order ≡ o) × (w ≡ v)
 
 -- an order is presented at a desk: paid there, or else kept by its owner, or else handed back
 abbrev pub Presents : View → View → PayOrder → Result Settled Returned → View → View → Type 0
-Presents desk owner o (Ok (Released p cents)) desk' owner' =
-    (mine (till_of desk) o ≡ true) × (p ≡ o.place) × (cents ≡ o.cents) × Pays desk o desk' × (owner' ≡ owner)
-Presents desk owner o (Ok (Held p cents)) desk' owner' = ⊥
-Presents desk owner o (Ok (TurnedAway number p cents)) desk' owner' =
+Presents desk owner o (Ok (Released paid)) desk' owner' =
+    (mine (till_of desk) o ≡ true) × Of o paid × Pays desk o desk' × (owner' ≡ owner)
+Presents desk owner o (Ok (Held paid)) desk' owner' = ⊥
+Presents desk owner o (Ok (TurnedAway number paid)) desk' owner' =
     (mine (till_of desk) o ≡ false) × (mine (till_of owner) o ≡ true)
-    × (number ≡ returned_number) × (p ≡ o.place) × (cents ≡ o.cents) × (desk' ≡ desk) × Keeps owner o owner'
+    × (number ≡ returned_number) × Of o paid × (desk' ≡ desk) × Keeps owner o owner'
 Presents desk owner o (Err back) desk' owner' =
     (mine (till_of desk) o ≡ false) × (mine (till_of owner) o ≡ false)
     × (back.order ≡ o) × (desk' ≡ desk) × (owner' ≡ owner)
@@ -50,11 +57,12 @@ rest v p = stands (till_of v) p % cent
 
 -- so many cents at most are paid; more of them stand as if none had been drawn
 abbrev pub Settles : ℕ → View → ℕ → Result Settled Refusal → View → Type 0
-Settles most v p (Ok (Released q cents)) w =
-    (q ≡ p) × (cents ≡ whole_cents v p) × (cents ≤ most) × Moved v p (rest v p) (ordered_at (till_of v) p) w
-Settles most v p (Ok (Held q cents)) w =
-    (q ≡ p) × (cents ≡ whole_cents v p) × (most < cents) × Moved v p (stands (till_of v) p) (ordered_at (till_of v) p) w
-Settles most v p (Ok (TurnedAway number q cents)) w = ⊥
+Settles most v p (Ok (Released paid)) w =
+    (paid.place ≡ p) × (paid.cents ≡ whole_cents v p) × (paid.cents ≤ most) × Moved v p (rest v p) (ordered_at (till_of v) p) w
+Settles most v p (Ok (Held paid)) w =
+    (paid.place ≡ p) × (paid.cents ≡ whole_cents v p) × (most < paid.cents)
+    × Moved v p (stands (till_of v) p) (ordered_at (till_of v) p) w
+Settles most v p (Ok (TurnedAway number paid)) w = ⊥
 Settles most v p (Err why) w = (draw_verdict v p ≡ refused why) × (w ≡ v)
 
 -- the desk would take in an order on all that stands at its owner's place
@@ -63,13 +71,13 @@ known desk owner p = (till_of owner).serial == (till_of desk).serial && nat_le (
 
 -- an order is drawn by its owner, and presented at a desk
 abbrev pub Elsewhere : View → View → ℕ → Result Settled Refusal → View → View → Type 0
-Elsewhere desk owner p (Ok (Released q cents)) desk' owner' =
-    (known desk owner p ≡ true) × (q ≡ p) × (cents ≡ whole_cents owner p)
-    × Moved desk p (stands (till_of desk) p) (ordered_at (till_of desk) p - cents) desk'
-    × Moved owner p (rest owner p) (ordered_at (till_of owner) p + cents) owner'
-Elsewhere desk owner p (Ok (Held q cents)) desk' owner' = ⊥
-Elsewhere desk owner p (Ok (TurnedAway number q cents)) desk' owner' =
-    (known desk owner p ≡ false) × (number ≡ returned_number) × (q ≡ p) × (cents ≡ whole_cents owner p)
+Elsewhere desk owner p (Ok (Released paid)) desk' owner' =
+    (known desk owner p ≡ true) × (paid.place ≡ p) × (paid.cents ≡ whole_cents owner p)
+    × Moved desk p (stands (till_of desk) p) (ordered_at (till_of desk) p - paid.cents) desk'
+    × Moved owner p (rest owner p) (ordered_at (till_of owner) p + paid.cents) owner'
+Elsewhere desk owner p (Ok (Held paid)) desk' owner' = ⊥
+Elsewhere desk owner p (Ok (TurnedAway number paid)) desk' owner' =
+    (known desk owner p ≡ false) × (number ≡ returned_number) × (paid.place ≡ p) × (paid.cents ≡ whole_cents owner p)
     × (desk' ≡ desk) × Moved owner p (stands (till_of owner) p) (ordered_at (till_of owner) p) owner'
 Elsewhere desk owner p (Err why) desk' owner' =
     (draw_verdict owner p ≡ refused why) × (desk' ≡ desk) × (owner' ≡ owner)

@@ -1,5 +1,6 @@
 // What a pay desk does with orders. Whoever has one in hand must see it released or held, and so each of these functions
 // ends with the order taken in by a house, or hands it back.
+ghost use Rattle.std.specs.Prelude.{◌≡◌};
 ghost use Rattle.house.specs.Shown.{shows};
 ghost use Rattle.pay_desk.specs.Desk.{PutsOff, Presents, Settles, Elsewhere};
 
@@ -7,17 +8,27 @@ use banks::Bank;
 use house::House;
 use ledger::Refusal;
 use methodology::Methodology;
-use orders::{PayOrder, Returned};
+use orders::{Paid, PayOrder, Returned};
 
-// What became of an order: its place, and its cents.
+// What became of an order's cents.
 #[derive(Clone, Copy, PartialEq, Eq, Debug)]
 pub enum Settled {
     // They were paid.
-    Released(u8, u64),
+    Released(Paid),
     // They stand at the place again.
-    Held(u8, u64),
+    Held(Paid),
     // Another house refused them, with this number, and then its own house held them.
-    TurnedAway(u8, u8, u64),
+    TurnedAway(u8, Paid),
+}
+
+// What an order pays.
+fn paid_by(order: &PayOrder) -> Paid
+    ensures { (result.place ≡ order.now.place) × (result.cents ≡ order.now.cents) }
+{
+    Paid {
+        place: order.place(),
+        cents: order.cents(),
+    }
 }
 
 // Puts an order off: its own house holds it. Another house's is handed back.
@@ -27,10 +38,9 @@ pub fn put_off<B: Bank, M: Methodology>(
 ) -> Result<Settled, Returned>
     ensures { PutsOff (shows B.Bank M.Methodology house.old) order result (shows B.Bank M.Methodology house.new) }
 {
-    let place = order.place();
-    let cents = order.cents();
+    let paid = paid_by(&order);
     house.hold(order)?;
-    Ok(Settled::Held(place, cents))
+    Ok(Settled::Held(paid))
 }
 
 // Presents an order for payment at a desk. Where it comes back, its owner holds it; one that neither knows is handed back.
@@ -41,15 +51,14 @@ pub fn present<B: Bank, M: Methodology>(
 ) -> Result<Settled, Returned>
     ensures { Presents (shows B.Bank M.Methodology desk.old) (shows B.Bank M.Methodology owner.old) order result (shows B.Bank M.Methodology desk.new) (shows B.Bank M.Methodology owner.new) }
 {
-    let place = order.place();
-    let cents = order.cents();
+    let paid = paid_by(&order);
     match desk.release(order) {
-        Ok(paid) => Ok(Settled::Released(paid.place, paid.cents)),
+        Ok(paid) => Ok(Settled::Released(paid)),
         Err(back) => {
             let number = back.number();
             let Returned { order } = back;
             owner.hold(order)?;
-            Ok(Settled::TurnedAway(number, place, cents))
+            Ok(Settled::TurnedAway(number, paid))
         }
     }
 }
@@ -63,13 +72,13 @@ pub fn settle_one<B: Bank, M: Methodology>(
     ensures { Settles most (shows B.Bank M.Methodology house.old) place result (shows B.Bank M.Methodology house.new) }
 {
     let order = house.draw(place)?;
-    let cents = order.cents();
-    if cents <= most {
+    let paid = paid_by(&order);
+    if paid.cents <= most {
         house.release(order).unwrap();
-        Ok(Settled::Released(place, cents))
+        Ok(Settled::Released(paid))
     } else {
         house.hold(order).unwrap();
-        Ok(Settled::Held(place, cents))
+        Ok(Settled::Held(paid))
     }
 }
 

@@ -8,6 +8,7 @@ use crate::desk::{Settled, settle_elsewhere, settle_one};
 use crate::market::metered_house;
 use anyhow::anyhow;
 use ledger::Refusal;
+use orders::Paid;
 
 // The serials of two houses.
 const HERE: u64 = 1;
@@ -18,7 +19,8 @@ const THERE: u64 = 2;
 const PLACE: u8 = 1;
 
 // Says what a house has done with so many cents of a place.
-fn tell(rt: &HostRuntime, serial: u64, done: &str, place: u8, cents: u64) -> anyhow::Result<()> {
+fn tell(rt: &HostRuntime, serial: u64, done: &str, paid: Paid) -> anyhow::Result<()> {
+    let Paid { place, cents } = paid;
     println!(rt; "house {serial}: {done} {cents} cents of place {place}")?;
     Ok(())
 }
@@ -31,22 +33,15 @@ fn tell_settled(
     owner: u64,
     answer: Result<Settled, Refusal>,
 ) -> anyhow::Result<()> {
-    let Ok(settled) = answer else {
-        return Err(anyhow!("nothing was drawn"));
-    };
+    let settled = answer.map_err(|_| anyhow!("nothing was drawn"))?;
+    let (Settled::Released(paid) | Settled::Held(paid) | Settled::TurnedAway(_, paid)) = settled;
+    tell(rt, owner, "drew", paid)?;
     match settled {
-        Settled::Released(place, cents) => {
-            tell(rt, owner, "drew", place, cents)?;
-            tell(rt, desk, "released", place, cents)
-        }
-        Settled::Held(place, cents) => {
-            tell(rt, owner, "drew", place, cents)?;
-            tell(rt, owner, "held", place, cents)
-        }
-        Settled::TurnedAway(number, place, cents) => {
-            tell(rt, owner, "drew", place, cents)?;
+        Settled::Released(_) => tell(rt, desk, "released", paid),
+        Settled::Held(_) => tell(rt, owner, "held", paid),
+        Settled::TurnedAway(number, _) => {
             println!(rt; "house {desk}: refusal {number}")?;
-            tell(rt, owner, "held", place, cents)
+            tell(rt, owner, "held", paid)
         }
     }
 }

@@ -7,7 +7,7 @@ use ledger::Refusal;
 use methodology::ThreeIntervals;
 use worked_figures::{agreement, sent, tariff, year};
 
-// `worked_cases` has this market too, above crates that this program has no use for.
+// No plainer: `worked_cases` has this market too, but stands above crates that this program has no use for.
 pub type Market = House<One<TwoPart>, ThreeIntervals>;
 
 // Files a year and a tariff, and takes the reading: 5,500,000 grains are due.
@@ -20,8 +20,6 @@ fn meter_first(house: &mut Market) -> Result<(), Refusal> {
 // A house in its first month, with the reading taken. Its orders bear the serial.
 pub fn metered_house(serial: u64) -> anyhow::Result<Market> {
     let mut house: Market = House::new(One::new(agreement()), ThreeIntervals, serial);
-    let Ok(()) = meter_first(&mut house) else {
-        return Err(anyhow!("the house refused a call"));
-    };
+    meter_first(&mut house).map_err(|_| anyhow!("the house refused a call"))?;
     Ok(house)
 }
