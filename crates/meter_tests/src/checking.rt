@@ -13,9 +13,12 @@ fn full_file() -> [u8; 249] {
     bytes[0] = 48;
     bytes[2] = 1;
     bytes[3] = 1;
-    for k in 0..48u8 {
-        bytes[8 + usize::from(k)] = k;
-        bytes[56 + 4 * usize::from(k)] = 1;
+    for (number, k) in bytes[8..56].iter_mut().zip(0..48) {
+        *number = k;
+    }
+    let (energies, _) = bytes[56..248].as_chunks_mut::<4>();
+    for energy in energies.iter_mut() {
+        energy[0] = 1;
     }
     bytes
 }
@@ -44,38 +47,19 @@ fn a_length_that_is_not_the_counts_is_refused(rt: HostRuntime) {
 
 #[test]
 fn a_header_field_out_of_range_is_named_by_its_offset(rt: HostRuntime) {
-    assert_eq!(rt;
-        check_file(&[49, 0, 1, 1, 0, 0, 0, 0]),
-        Err(Refusal::Header(0))
-    );
-    assert_eq!(rt;
-        check_file(&[0, 1, 1, 1, 0, 0, 0, 0]),
-        Err(Refusal::Header(0))
-    );
-    assert_eq!(rt;
-        check_file(&[0, 0, 0, 1, 0, 0, 0, 0]),
-        Err(Refusal::Header(2))
-    );
-    assert_eq!(rt;
-        check_file(&[0, 0, 3, 1, 0, 0, 0, 0]),
-        Err(Refusal::Header(2))
-    );
-    assert_eq!(rt;
-        check_file(&[0, 0, 1, 0, 0, 0, 0, 0]),
-        Err(Refusal::Header(3))
-    );
-    assert_eq!(rt;
-        check_file(&[0, 0, 1, 33, 0, 0, 0, 0]),
-        Err(Refusal::Header(3))
-    );
-    assert_eq!(rt;
-        check_file(&[0, 0, 2, 9, 0, 0, 0, 0]),
-        Err(Refusal::Header(3))
-    );
-    assert_eq!(rt;
-        check_file(&[0, 0, 1, 1, 129, 132, 30, 0]),
-        Err(Refusal::Header(4))
-    );
+    let cases = [
+        ([49, 0, 1, 1, 0, 0, 0, 0], 0),
+        ([0, 1, 1, 1, 0, 0, 0, 0], 0),
+        ([0, 0, 0, 1, 0, 0, 0, 0], 2),
+        ([0, 0, 3, 1, 0, 0, 0, 0], 2),
+        ([0, 0, 1, 0, 0, 0, 0, 0], 3),
+        ([0, 0, 1, 33, 0, 0, 0, 0], 3),
+        ([0, 0, 2, 9, 0, 0, 0, 0], 3),
+        ([0, 0, 1, 1, 129, 132, 30, 0], 4),
+    ];
+    for (bytes, offset) in cases.iter() {
+        assert_eq!(rt; check_file(bytes), Err(Refusal::Header(*offset)));
+    }
 }
 
 #[test]

@@ -4,41 +4,35 @@ use std::test::Fail;
 
 // The line that is wrong, and what is expected there.
 fn fault(text: &str) -> Option<(usize, Expected)> {
-    match parse_figures(text.as_bytes()) {
-        Ok(_) => None,
-        Err(TextFault { line, expected }) => Some((line, expected)),
-    }
+    let TextFault { line, expected } = parse_figures(text.as_bytes()).err()?;
+    Some((line, expected))
 }
 
 #[test]
 fn comments_blank_lines_and_wide_gaps_say_nothing(rt: HostRuntime) -> Result<(), Fail> {
     let text = "# a station\n\n  generator\t7 # its place\r\ndemand 100\n 0  5\n47 6";
-    match parse_figures(text.as_bytes()) {
-        Ok(figures) => {
-            assert_eq!(rt; figures.kind, 1);
-            assert_eq!(rt; figures.number, 7);
-            assert_eq!(rt; figures.demand, 100);
-            assert_eq!(rt; figures.blocks[0], 5);
-            assert_eq!(rt; figures.blocks[47], 6);
-            Ok(())
-        }
-        Err(_) => Err(Fail::new("refused")),
-    }
+    let Ok(figures) = parse_figures(text.as_bytes()) else {
+        return Err(Fail::new("refused"));
+    };
+    assert_eq!(rt; figures.kind, 1);
+    assert_eq!(rt; figures.number, 7);
+    assert_eq!(rt; figures.demand, 100);
+    assert_eq!(rt; figures.blocks[0], 5);
+    assert_eq!(rt; figures.blocks[47], 6);
+    Ok(())
 }
 
 #[test]
 fn a_kind_may_be_a_number_and_a_large_figure_counts_as_the_largest(
     rt: HostRuntime,
 ) -> Result<(), Fail> {
-    match parse_figures(b"2 99999999999\ndemand 4294967296") {
-        Ok(figures) => {
-            assert_eq!(rt; figures.kind, 2);
-            assert_eq!(rt; figures.number, u32::MAX);
-            assert_eq!(rt; figures.demand, u32::MAX);
-            Ok(())
-        }
-        Err(_) => Err(Fail::new("refused")),
-    }
+    let Ok(figures) = parse_figures(b"2 99999999999\ndemand 4294967296") else {
+        return Err(Fail::new("refused"));
+    };
+    assert_eq!(rt; figures.kind, 2);
+    assert_eq!(rt; figures.number, u32::MAX);
+    assert_eq!(rt; figures.demand, u32::MAX);
+    Ok(())
 }
 
 #[test]

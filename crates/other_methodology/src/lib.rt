@@ -53,17 +53,17 @@ pub fn head_of_fifth(block: usize) -> usize
 mod tests {
     use super::*;
     use methodology::{ThreeIntervals, TwoIntervals};
-    use std::alloc::{AllocError, Global};
+    use std::alloc::Global;
+    use std::fmt::Write;
     use std::test::Fail;
 
     // The names of a methodology's heads, each with a space before it.
-    fn names<M: Methodology>(heap: Global) -> Result<String, AllocError> {
+    fn names<M: Methodology>(heap: Global) -> Result<String, Fail> {
         let shape = M::shape();
         let mut all = String::new(heap);
         for number in 1..=shape.heads() {
             let head = shape.head(number);
-            let name = format!(in heap; " {head}")?;
-            all.push_str(&name)?;
+            write!(all, " {head}")?;
         }
         Ok(all)
     }
