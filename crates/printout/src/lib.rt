@@ -21,8 +21,8 @@ mod tests {
     use std::test::Fail;
     use tariffs::Row;
 
-    // Calls with their answers, in the order of the lines below.
-    fn performed() -> [(Call, Answer); 13] {
+    // Calls with their answers, and the line of each.
+    fn performed() -> [(Call, Answer, &'static str); 13] {
         let meter = Call::Meter(Reading::empty());
         let close = Call::closing(1, 1);
         let fault = Fault {
@@ -31,48 +31,78 @@ mod tests {
         };
         let release = Spending::Release;
         [
-            (Call::Year(Row::of(&[])), Answer::Accepted),
-            (meter, Answer::Metered(5_500_000)),
-            (Call::Deliver(Reading::empty()), Answer::Accepted),
-            (meter, Answer::Refused(Refusal::Agreement(fault))),
-            (close, Answer::Refused(Refusal::NoQuantity(3))),
-            (Call::Draw(2), Answer::Refused(Refusal::UnderACent)),
-            (Call::Draw(2), Answer::Drawn(2, 550)),
+            (
+                Call::Year(Row::of(&[])),
+                Answer::Accepted,
+                "1 year accepted",
+            ),
+            (
+                meter,
+                Answer::Metered(5_500_000),
+                "2 meter accepted place 1 dues 5500000",
+            ),
+            (
+                Call::Deliver(Reading::empty()),
+                Answer::Accepted,
+                "3 deliver accepted licensee 1",
+            ),
+            (
+                meter,
+                Answer::Refused(Refusal::Agreement(fault)),
+                "4 meter refused 10 cause 1 layer 0",
+            ),
+            (
+                close,
+                Answer::Refused(Refusal::NoQuantity(3)),
+                "5 close refused 17 head 3",
+            ),
+            (
+                Call::Draw(2),
+                Answer::Refused(Refusal::UnderACent),
+                "6 draw refused 21",
+            ),
+            (
+                Call::Draw(2),
+                Answer::Drawn(2, 550),
+                "7 draw accepted order 1 place 2 cents 550",
+            ),
             (
                 Call::Present(release, Named::Drawn(1)),
                 Answer::Paid(2, 550),
+                "8 release accepted order 1",
             ),
-            (Call::Draw(1), Answer::Drawn(1, 7)),
+            (
+                Call::Draw(1),
+                Answer::Drawn(1, 7),
+                "9 draw accepted order 2 place 1 cents 7",
+            ),
             (
                 Call::Present(Spending::Hold, Named::Drawn(2)),
                 Answer::Accepted,
+                "10 hold accepted order 2",
             ),
-            (Call::Present(release, Named::Drawn(3)), Answer::Absent),
-            (Call::Present(release, Named::Other(1)), Answer::Returned),
-            (Call::Present(release, Named::Other(4)), Answer::Absent),
+            (
+                Call::Present(release, Named::Drawn(3)),
+                Answer::Absent,
+                "11 release absent order 3",
+            ),
+            (
+                Call::Present(release, Named::Other(1)),
+                Answer::Returned,
+                "12 release refused 22",
+            ),
+            (
+                Call::Present(release, Named::Other(4)),
+                Answer::Absent,
+                "13 release absent other 4",
+            ),
         ]
     }
-
-    const LINES: [&str; 13] = [
-        "1 year accepted",
-        "2 meter accepted place 1 dues 5500000",
-        "3 deliver accepted licensee 1",
-        "4 meter refused 10 cause 1 layer 0",
-        "5 close refused 17 head 3",
-        "6 draw refused 21",
-        "7 draw accepted order 1 place 2 cents 550",
-        "8 release accepted order 1",
-        "9 draw accepted order 2 place 1 cents 7",
-        "10 hold accepted order 2",
-        "11 release absent order 3",
-        "12 release refused 22",
-        "13 release absent other 4",
-    ];
 
     #[test]
     fn each_call_has_its_line(rt: HostRuntime) -> Result<(), Fail> {
         let mut printer = Printer::new();
-        for ((call, answer), text) in performed().iter().zip(LINES.iter()) {
+        for (call, answer, text) in performed().iter() {
             let line = printer.line(call, answer);
             assert_eq!(rt; line.to_string(rt.alloc())?.as_str(), *text);
         }

@@ -5,10 +5,8 @@ ghost use Rattle.printout.specs.Text.{line_text, file_text};
 use crate::subject::Subject;
 use crate::verb::Verb;
 use history::{Answer, Call};
+use orders::RETURNED;
 use std::fmt;
-
-// The number of the refusal by which an order comes back.
-const RETURNED: u8 = 22;
 
 // The line of a call that was made, or that named an order that was not there.
 #[derive(Clone, Copy)]
@@ -31,16 +29,16 @@ impl fmt::Display for Line<'_> {
         let verb = Verb::from(self.call);
         let subject = Subject::from(self.call);
         match *self.answer {
-            Answer::Accepted => write!(f, "{number} {verb} accepted{subject}"),
+            Answer::Accepted | Answer::Closed(_) | Answer::Paid(_, _) => {
+                write!(f, "{number} {verb} accepted{subject}")
+            }
             Answer::Metered(dues) => write!(f, "{number} {verb} accepted{subject} dues {dues}"),
-            Answer::Closed(_) => write!(f, "{number} {verb} accepted{subject}"),
             Answer::Drawn(place, cents) => {
                 write!(
                     f,
                     "{number} {verb} accepted{subject} order {orders} place {place} cents {cents}"
                 )
             }
-            Answer::Paid(_, _) => write!(f, "{number} {verb} accepted{subject}"),
             Answer::Refused(why) => write!(f, "{number} {verb} {why}"),
             Answer::Returned => write!(f, "{number} {verb} refused {RETURNED}"),
             Answer::Absent => write!(f, "{number} {verb} absent{subject}"),

@@ -10,7 +10,7 @@ use sheet::text_of;
 use std::io;
 
 // How many lines there were, and how many of their calls drew an order.
-#[derive(Clone, Copy, PartialEq, Eq, Debug)]
+#[derive(Clone, Copy, PartialEq, Eq, Debug, Default)]
 pub struct Printer {
     lines: usize,
     orders: usize,
@@ -22,10 +22,7 @@ impl Printer {
         ensures lines { result.lines ≡ 0 }
         ensures orders { result.orders ≡ 0 }
     {
-        Printer {
-            lines: 0,
-            orders: 0,
-        }
+        Printer::default()
     }
 
     // Counts a line more, and answers its number.
@@ -47,7 +44,7 @@ impl Printer {
         ensures law { NumberedAsNamed }
     {
         let number = self.next_line();
-        if let Answer::Drawn(_, _) = answer {
+        if matches!(answer, Answer::Drawn(_, _)) {
             self.orders = self.orders.saturating_add(1);
         }
         Line {

@@ -35,29 +35,20 @@ impl From<&Call> for Verb {
     }
 }
 
-impl Verb {
-    // Its word.
-    fn word(self) -> &'static str
-        ensures { result.now ≡ word self }
-    {
-        match self {
-            Verb::Year => "year",
-            Verb::Tariff => "tariff",
-            Verb::Meter => "meter",
-            Verb::Deliver => "deliver",
-            Verb::Close => "close",
-            Verb::Draw => "draw",
-            Verb::Release => "release",
-            Verb::Hold => "hold",
-        }
-    }
-}
-
+// As its word.
 impl fmt::Display for Verb {
     ghost output = { λ v. Some (word v) };
 
     fn fmt<W: fmt::Write>(&self, f: &mut fmt::Formatter<W>) -> fmt::Result {
-        let verb = *self;
-        f.write_str(verb.word())
+        match *self {
+            Verb::Year => f.write_str("year"),
+            Verb::Tariff => f.write_str("tariff"),
+            Verb::Meter => f.write_str("meter"),
+            Verb::Deliver => f.write_str("deliver"),
+            Verb::Close => f.write_str("close"),
+            Verb::Draw => f.write_str("draw"),
+            Verb::Release => f.write_str("release"),
+            Verb::Hold => f.write_str("hold"),
+        }
     }
 }
