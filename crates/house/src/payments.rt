@@ -13,11 +13,10 @@ impl<B: Bank, M: Methodology> House<B, M> {
     pub fn draw(&mut self, place: u8) -> Result<PayOrder, Refusal>
         ensures { Draw (shows B.Bank M.Methodology self.old) place result (shows B.Bank M.Methodology self.new) }
     {
-        if place == 0 || place > self.bank.places() {
+        if !(1..=self.bank.places()).contains(&place) {
             return Err(Refusal::NoPlace);
         }
-        let order = self.ledger.till.draw(place)?;
-        Ok(order)
+        Ok(self.ledger.till.draw(place)?)
     }
 
     // Pays an order. One that is not the house's own comes back.

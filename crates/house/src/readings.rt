@@ -4,7 +4,6 @@ ghost use Rattle.banks.specs.Rows.{at_place};
 ghost use Rattle.ledger.specs.Calls.{Meter, meter_verdict, Metered, Deliver};
 ghost use Rattle.ledger.specs.Terms.{worth, dues_at};
 ghost use Rattle.ledger.specs.Verdicts.{accepted, said};
-ghost use Rattle.ledger.specs.Views.{in_month};
 ghost use Rattle.house.specs.Shown.{shows};
 
 use crate::state::House;
@@ -13,13 +12,6 @@ use banks::Bank;
 use ledger::{Refusal, Stage};
 use metering::{Kind, Reading};
 use methodology::Methodology;
-
-// Whether a month is open.
-fn in_month(stage: Stage) -> bool
-    ensures { result ≡ in_month stage }
-{
-    matches!(stage, Stage::InMonth(_))
-}
 
 impl<B: Bank, M: Methodology> House<B, M> {
     // What the reading's station is due, if meter accepts it.
@@ -30,9 +22,9 @@ impl<B: Bank, M: Methodology> House<B, M> {
         if reading.kind != Kind::Generator {
             return Err(Refusal::WrongKind);
         }
-        if !in_month(self.ledger.stage) {
+        let Stage::InMonth(_) = self.ledger.stage else {
             return Err(Refusal::NoMonth);
-        }
+        };
         let place = reading.number;
         if place > self.bank.places() {
             return Err(Refusal::NoPlace);
@@ -76,9 +68,9 @@ impl<B: Bank, M: Methodology> House<B, M> {
         if reading.kind != Kind::Licensee {
             return Err(Refusal::WrongKind);
         }
-        if !in_month(self.ledger.stage) {
+        let Stage::InMonth(_) = self.ledger.stage else {
             return Err(Refusal::NoMonth);
-        }
+        };
         if self.ledger.month.has_delivered(reading.number) {
             return Err(Refusal::Again);
         }
