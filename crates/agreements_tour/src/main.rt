@@ -2,31 +2,32 @@
 #![tactic(auto)]
 
 use agreements::{Dues, Index, Quota, TwoPart};
+use anyhow::anyhow;
 use banks::{Bank, Beside, Listed, One, Unplaced};
-use metering::{BLOCKS, Reading, make_reading};
+use metering::{BLOCKS, Kind, Reading, make_reading};
 use stations::{Figures, Station, Stations};
 use strangers::{Retainer, Reversed};
 
 // A generator's reading of 100 kW, with 20 kWh in block 2 and 30 kWh in block 12.
-fn reading() -> Reading {
+fn reading() -> anyhow::Result<Reading> {
     let mut blocks = [0; BLOCKS];
     blocks[2] = 20;
     blocks[12] = 30;
     let figures = metering::Figures {
-        kind: 1,
+        kind: u32::from(Kind::Generator),
         number: 1,
         demand: 100,
         blocks,
     };
     let mut reading = Reading::empty();
-    let _ = make_reading(&figures, &mut reading);
-    reading
+    make_reading(&figures, &mut reading).map_err(|refusal| anyhow!("{refusal}"))?;
+    Ok(reading)
 }
 
 // Books the reading at the place and tells what came of it.
 fn tell<B: Bank>(rt: &HostRuntime, bank: &mut B, place: u8) -> anyhow::Result<()> {
     let mut table = Dues::empty();
-    match bank.book_at(place, &reading(), &mut table) {
+    match bank.book_at(place, &reading()?, &mut table) {
         Ok(()) => {
             let capacity = table.capacity;
             let early = table.blocks[2];
@@ -70,16 +71,18 @@ fn place_one(
     layers: usize,
 ) -> anyhow::Result<()> {
     let factors = vec![in rt.alloc(); 4_000_000; layers]?;
-    match Station::new(figures, factors) {
-        Ok(station) => match bank.push(station) {
-            Ok(()) => {}
-            Err(Unplaced::Full(_)) => println!(rt; "every place is taken")?,
-            Err(Unplaced::NoMemory(_)) => println!(rt; "no memory")?,
-        },
+    let station = match Station::new(figures, factors) {
+        Ok(station) => station,
         Err(refusal) => {
             let number = refusal.number();
             println!(rt; "not made: {number}")?;
+            return Ok(());
         }
+    };
+    match bank.push(station) {
+        Ok(()) => {}
+        Err(Unplaced::Full(_)) => println!(rt; "every place is taken")?,
+        Err(Unplaced::NoMemory(_)) => println!(rt; "no memory")?,
     }
     Ok(())
 }
@@ -110,11 +113,7 @@ fn filed_market(rt: &HostRuntime) -> anyhow::Result<()> {
     Ok(())
 }
 
-fn run(rt: &HostRuntime) -> anyhow::Result<()> {
-    written_market(rt)?;
-    filed_market(rt)
-}
-
 fn main(rt: HostRuntime) -> anyhow::Result<()> {
-    run(&rt)
+    written_market(&rt)?;
+    filed_market(&rt)
 }

@@ -70,6 +70,7 @@ impl<M: Methodology> CaseHead<'_, M> {
     }
 
     // The energy sent in, kWh, of an interval.
+    #[tactic(auto, using(crate::proofs::Bounds::sent_le))]
     pub fn sent(&self) -> u64
         ensures value { result ≡ at_head sent self.now }
         ensures most { result ≤ supply_limit }

@@ -16,7 +16,8 @@ use rates::HEADS;
 use std::array;
 
 impl<M: Methodology> Case<'_, M> {
-    // What is found for the head at a place.
+    // What is found for the head at a place. It is the case's: of the head that `at` gives, the check did not find again what
+    // the case is known for.
     fn finding(&self, k: usize) -> Finding
         requires place { k < heads (shows M.Methodology self.now) }
         requires some { Empty (shows M.Methodology self.now) k → ⊥ }

@@ -28,6 +28,7 @@ fn share_of(revenues: &Revenues, count: usize, number: u8, k: usize) -> u64
 
 impl<M: Methodology> CaseHead<'_, M> {
     // The head's share of the year.
+    #[tactic(auto, unfolding(settlement::specs::Closing::share))]
     fn share(&self) -> u64
         ensures value { result ≡ at_head share self.now }
         ensures most { result ≤ yearly_limit }

@@ -48,6 +48,7 @@ impl<M: Methodology> FoundHead<'_, M> {
     }
 
     // The balance after the closing.
+    #[tactic(auto, unfolding(settlement::specs::Closing::balance))]
     pub fn balance(&self) -> i128
         ensures { result ≡ at_head balance self.now.head }
     {

@@ -1,5 +1,6 @@
 -- The worked case.
-use Rattle.std.proofs.Common.{◌≡◌, ℕ, ◌-◌, [], ◌∷◌, Ok, Err, sum, Result, refl, ap, ◌∙◌, arith}
+use Rattle.std.proofs.Common.{◌≡◌, ℕ, ◌-◌, [], ◌∷◌, Ok, Err, sum, Result, refl, ap, ◌∙◌, rules, arith}
+use Rattle.std.specs.Result.{IsOk}
 use Rattle.metering.specs.Makes.{Makes, figures_check}
 use Rattle.metering.specs.Figures.{moderate}
 use Rattle.metering.specs.Limits.{block_count}
@@ -25,6 +26,11 @@ worked_figures = record { kind = 1; number = 1; demand = 0; blocks = worked_ener
 worked_fits : figures_check worked_figures ≡ accepted
 unfolding moderate
 worked_fits = refl
+
+-- they are accepted
+pub fits : (before after : Reading) (a : Result (Unit {0}) Refusal) → Makes worked_figures before a after → IsOk a
+fits before after (Ok _) m = search rules
+fits before after (Err e) m = let t = m.told ∙ worked_fits in let z : ◌≡◌ {A = ℕ} 0 1 = cc in absurd (omega arith)
 
 -- figures that are accepted are stored
 pub stored : (before after : Reading) (a : Result (Unit {0}) Refusal) → Makes worked_figures before a after → after.blocks ≡ worked_energies

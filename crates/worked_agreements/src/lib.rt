@@ -21,7 +21,7 @@ fn worked_reading() -> Reading
         blocks,
     };
     let mut reading = Reading::empty();
-    let _ = make_reading(&figures, &mut reading);
+    make_reading(&figures, &mut reading).unwrap();
     reading
 }
 
@@ -31,8 +31,7 @@ pub fn worked_quota() -> Dues
     ensures law { WorkedQuota }
 {
     let mut dues = Dues::empty();
-    if let Ok(quota) = Quota::new(25, 60_000, 40_000) {
-        let _ = quota.ask(&worked_reading(), &mut dues);
-    }
+    let quota = Quota::new(25, 60_000, 40_000).unwrap();
+    quota.ask(&worked_reading(), &mut dues).unwrap();
     dues
 }

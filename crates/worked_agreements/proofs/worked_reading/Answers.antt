@@ -1,5 +1,8 @@
-use Rattle.worked_agreements.proofs.Cases.{stored}
+use Rattle.worked_agreements.proofs.Cases.{fits, stored}
 use Rattle.worked_agreements.proofs.worked_reading.Goals as goal
+
+pub unwrap-requires : goal.unwrap-requires
+unwrap-requires c = fits _ _ _ c.make_reading.ensures
 
 pub returns : goal.returns
 returns c = stored _ _ _ c.make_reading.ensures
