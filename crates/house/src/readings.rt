@@ -34,6 +34,8 @@ impl<B: Bank, M: Methodology> House<B, M> {
         }
         let mut dues = Dues::empty();
         self.bank.ask_at(place, reading, &mut dues)?;
+        // This sum, also in `meter`, is no method of `Dues`: for any table the check finds no bound of it; here each part is at
+        // most 10^17 by the law of agreements.
         if !self
             .ledger
             .till

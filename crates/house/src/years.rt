@@ -7,15 +7,8 @@ ghost use Rattle.house.specs.Shown.{shows};
 use crate::state::House;
 use banks::Bank;
 use ledger::{Half, Refusal, Stage};
-use methodology::{Methodology, Shape};
+use methodology::Methodology;
 use tariffs::{Filing, Row, file_year, publish};
-
-// The market's counts.
-fn shape_of<M: Methodology>() -> Shape
-    ensures { result ≡ M.shape }
-{
-    M::shape()
-}
 
 // The month that a tariff opens.
 fn first_month(half: Half) -> Stage
@@ -35,7 +28,7 @@ impl<B: Bank, M: Methodology> House<B, M> {
         if self.ledger.stage != Stage::BeforeYear {
             return Err(Refusal::NotNow);
         }
-        let revenues = file_year(shape_of::<M>(), filed)?;
+        let revenues = file_year(M::shape(), filed)?;
         self.ledger.revenues = revenues;
         self.ledger.stage = Stage::BeforeTariff(Half::First);
         Ok(())
@@ -49,7 +42,7 @@ impl<B: Bank, M: Methodology> House<B, M> {
             return Err(Refusal::NotNow);
         };
         let earlier = self.ledger.books.earlier();
-        let rates = publish(shape_of::<M>(), filing, &earlier)?;
+        let rates = publish(M::shape(), filing, &earlier)?;
         self.ledger.rates = rates;
         self.ledger.books.begin_period();
         self.ledger.stage = first_month(half);
