@@ -29,7 +29,8 @@ fn after_month(number: u8) -> Stage
 }
 
 impl<B: Bank, M: Methodology> House<B, M> {
-    // Closes the month and fills in the caller's sheet. The caller states how many readings and deliveries it must have.
+    // Closes the month and fills in the caller's sheet, as is the rule here; a refusal leaves it. The caller states how many
+    // readings and deliveries the month must have: two figures, since a struct of them would serve this call alone.
     pub fn close(
         &mut self,
         readings: usize,

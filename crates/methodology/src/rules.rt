@@ -8,7 +8,8 @@ ghost use Rattle.methodology.specs.Meaning.{Meaning, UpTo, OneToTwo};
 use crate::shape::Shape;
 
 // A market's own rules: which interval a block of the day is in, and how much of the energy sent in its price may cover.
-// It refuses nothing and never changes.
+// It refuses nothing and never changes. Intervals are numbers from 1, and no enum of one market's, for code over any market
+// goes by them; nothing is said of a block that the day has not, since a type of blocks would ask more of callers.
 pub trait Methodology {
     // How many allowed revenues it has.
     const REVENUES: usize;

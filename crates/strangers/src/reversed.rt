@@ -22,7 +22,7 @@ impl<B> Reversed<B> {
 }
 
 impl<B: Bank> Reversed<B> {
-    // The number that the bank itself gives a place; 0, which is no place, past the last one.
+    // The number that the bank itself gives a place; 0 past the last one, which the bank refuses, so that no test is made twice.
     fn turned(&self, place: u8) -> u8
         ensures { result ≡ length (B.Bank.row self.now.bank) + 1 - place }
     {

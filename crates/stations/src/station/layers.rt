@@ -19,6 +19,7 @@ impl Agreement for Station {
     fn ask(&self, reading: &Reading, table: &mut Dues) -> Result<(), Fault> {
         let mut dues = Dues::empty();
         self.base.ask(reading, &mut dues)?;
+        // Dues and layer go along from factor to factor: a `try_fold` would carry the pair of them, and be no plainer.
         let mut layer = self.base.layer();
         for factor in &self.factors {
             layer = layer_above(layer);
