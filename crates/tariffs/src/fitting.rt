@@ -14,7 +14,8 @@ use crate::limits::{
 use crate::row::Row;
 use methodology::Shape;
 
-// Whether a figure lies between low and high.
+// Whether a figure lies between low and high. Two bounds and no `RangeInclusive`: that has a third part, whether it has been
+// gone through, which each contract below would have to speak of.
 fn lies_between(low: u64, high: u64, figure: u64) -> bool
     ensures { result ≡ between low high figure }
 {
