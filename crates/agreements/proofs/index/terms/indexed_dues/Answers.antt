@@ -1,6 +1,6 @@
 use Rattle.std.proofs.Common.{sum, rules, ap, arith}
 use Rattle.agreements.specs.Indexes.{scaled}
-use Rattle.agreements.specs.Indexing.{capped, over_capacity, over_blocks, in_limits}
+use Rattle.agreements.specs.Indexing.{capped, capped_over_capacity, capped_over_blocks, capped_in_limits}
 use Rattle.agreements.proofs.Arrays.{mapped}
 use Rattle.agreements.proofs.index.terms.indexed_dues.Goals.{then-capacity_due-limit-via-then-capacity_due-limit, then-capacity_due-limit-via-else-capacity_due-limit+then-block_sum-limit}
 use Rattle.agreements.proofs.index.terms.indexed_dues.Goals as goal
@@ -11,8 +11,8 @@ returns-then-capacity_due-limit c =
     let d = c.args.dues.now in
     let e = mapped _ (λ x. capped (scaled f x)) _ (λ x y q k. search rules) _ _ _ c.map.ensures.items (omega arith) in
     elim c.then-capacity_due-limit.branch [
-      | then-capacity_due-limit-via-then-capacity_due-limit w ↦ over_capacity c.args.layer f d (omega arith)
-      | then-capacity_due-limit-via-else-capacity_due-limit+then-block_sum-limit w ↦ over_blocks c.args.layer f d (omega (arith, ap sum e))
+      | then-capacity_due-limit-via-then-capacity_due-limit w ↦ capped_over_capacity c.args.layer f d (omega arith)
+      | then-capacity_due-limit-via-else-capacity_due-limit+then-block_sum-limit w ↦ capped_over_blocks c.args.layer f d (omega (arith, ap sum e))
     ]
 
 pub returns : goal.returns
@@ -20,5 +20,5 @@ returns c =
     let f = c.args.factor.ppm in
     let d = c.args.dues.now in
     let e = mapped _ (λ x. capped (scaled f x)) _ (λ x y q k. search rules) _ _ _ c.map.ensures.items (omega arith) in
-    let is = in_limits c.args.layer f d (omega arith) (omega (arith, ap sum e)) in
+    let is = capped_in_limits c.args.layer f d (omega arith) (omega (arith, ap sum e)) in
     search rules
