@@ -1,5 +1,5 @@
 // Numbering the lines of a list, and the orders that are drawn in it.
-ghost use Rattle.std.specs.Prelude.{◌≡◌, IfOk};
+ghost use Rattle.std.specs.Prelude.{◌≡◌};
 ghost use Rattle.printout.specs.Counting.{next, orders_after};
 ghost use Rattle.printout.specs.Numbering.{NumberedAsNamed};
 
@@ -70,7 +70,7 @@ impl Printer {
 
     // Prints the next line: of a call and its answer, and under an accepted closing its sheet.
     pub fn print(&mut self, rt: &HostRuntime, call: &Call, answer: &Answer) -> io::Result<()>
-        ensures { IfOk result (λ _. self.new ≡ record { lines = next self.old.lines; orders = orders_after self.old.orders answer.now }) }
+        ensures { self.new ≡ record { lines = next self.old.lines; orders = orders_after self.old.orders answer.now } }
     {
         let line = self.line(call, answer);
         println!(rt; "{line}")?;
