@@ -1,9 +1,11 @@
 -- The lines of a journal, read one after another.
-use Rattle.std.proofs.Common.{◌≡◌, ℕ, ◌+◌, List, [], ◌∷◌, Ok, Err, Result, refl, sym, ap, ◌∙◌}
+use Rattle.std.proofs.Common.{◌≡◌, ℕ, ◌+◌, true, List, [], ◌∷◌, Ok, Err, Result, refl, sym, ap, ◌∙◌}
+use Rattle.std.specs.Result.{MatchResult, is_ok}
 use Rattle.words.specs.Pieces.{words, bare}
 use Rattle.journal.specs.declared.expected.Expected.{Expected}
 use Rattle.journal.specs.declared.expected.Unreadable.{Unreadable}
 use Rattle.journal.specs.declared.expected.Unreadable.TheVariants.{Lacks, NoMemory}
+use Rattle.journal.specs.declared.fault.Unread.{Unread}
 use Rattle.journal.specs.Lines.{Said, Turns, with_words}
 use Rattle.journal.specs.Text.{Account, Fault, Reads, unread_at, read_on, goes_on, finished}
 
@@ -16,12 +18,21 @@ module _ (n : ℕ) (s : Said) (ls : List (List ℕ)) (line : List ℕ) (more : L
   unfolding read_on
   line_read = ap (read_on n s) cut ∙ sym (ap (λ k. then k (with_words s k (words (bare line)))) next)
 
-  pub line_stops : (why : Unreadable) (after : Said) → Turns (with_words s m (words (bare line))) (Err why) after → Reads (read_on n s ls) (Err (unread_at m why))
-  line_stops (Lacks e) after h = line_read ∙ ap (then m) h
-  line_stops NoMemory after h = tt
+  abbrev Turned : Result (Unit {0}) Unreadable → Said → Type 0
+  Turned r after = Turns (with_words s m (words (bare line))) r after
 
-  pub line_goes : (t : Said) → with_words s m (words (bare line)) ≡ Ok t → read_on m t more ≡ read_on n s ls
-  line_goes t h = sym (line_read ∙ ap (then m) h)
+  line_refused : (why : Unreadable) (after : Said) → Turned (Err why) after → Reads (read_on n s ls) (Err (unread_at m why))
+  line_refused (Lacks e) after h = line_read ∙ ap (then m) h
+  line_refused NoMemory after h = tt
+
+  pub line_stops : (r : Result (Unit {0}) Unreadable) (after : Said) (told : Unread) → Turned r after
+      → MatchResult r (λ x. ◌≡◌ {A = Result (Unit {0}) Unread} (Err told) (Ok x)) (λ why. told ≡ unread_at m why) → Reads (read_on n s ls) (Err told)
+  line_stops (Ok x) after told h i = cc
+  line_stops (Err why) after told h i = rw i (line_refused why after h)
+
+  pub line_goes : (r : Result (Unit {0}) Unreadable) (t : Said) → Turned r t → is_ok r ≡ true → read_on m t more ≡ read_on n s ls
+  line_goes (Ok x) t h i = sym (line_read ∙ ap (then m) h)
+  line_goes (Err why) t h i = cc
 
 pub lines_end : (n : ℕ) (s : Said) → read_on n s [] ≡ finished n s
 unfolding read_on

@@ -60,13 +60,11 @@ fn draw<'a>(mut words: Words<'a>) -> Result<Request<'a>, Expected>
 {
     let place = single(&mut words, Name::Draw)?;
     ended(words)?;
-    match u8::try_from(place) {
-        Ok(place) => Ok(Request::Draw(place)),
-        Err(_) => Err(Expected::Most {
-            name: Name::Draw,
-            most: u64::from(u8::MAX),
-        }),
-    }
+    let place = u8::try_from(place).map_err(|_| Expected::Most {
+        name: Name::Draw,
+        most: u64::from(u8::MAX),
+    })?;
+    Ok(Request::Draw(place))
 }
 
 // Reads a line that names an order, by the order of its draw, and no more.

@@ -21,9 +21,9 @@ pub struct Entry<'a> {
 
 #[derive(Drop)]
 pub struct Draft<'a> {
-    // what the stations are allocated from
+    // What the stations are allocated from.
     heap: Global,
-    // what the market's line has said
+    // What the market's line has said.
     pub heading: Option<Heading>,
     pub stations: Stations,
     pub entries: Vec<Entry<'a>>,

@@ -56,9 +56,9 @@ pub fn parse_journal<'a>(heap: Global, text: &'a [u8]) -> Result<Journal<'a>, Un
     let mut draft = Draft::blank(heap);
     let mut last = 0;
     for (line, bytes) in Lines::of(text) {
-        if let Err(why) = draft.add_line(line, Words::of(bytes)) {
-            return Err(unread_at(line, why));
-        }
+        draft
+            .add_line(line, Words::of(bytes))
+            .map_err(|why| unread_at(line, why))?;
         last = line;
     }
     finish(draft, last)

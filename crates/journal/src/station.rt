@@ -22,10 +22,10 @@ fn three(
 ) -> Result<(u64, u64, u64), Expected>
     ensures { Takes (three_of first second third (left words.old)) result (left words.new) }
 {
-    let a = single(words, first)?;
-    let b = single(words, second)?;
-    let c = single(words, third)?;
-    Ok((a, b, c))
+    let first = single(words, first)?;
+    let second = single(words, second)?;
+    let third = single(words, third)?;
+    Ok((first, second, third))
 }
 
 // Takes the kind of the agreement and its figures.
@@ -94,8 +94,5 @@ pub fn read_station(heap: Global, mut words: Words) -> Result<Station, Unreadabl
 {
     let figures = filed(&mut words)?;
     let factors = layers(heap, words)?;
-    match Station::new(figures, factors) {
-        Ok(station) => Ok(station),
-        Err(_) => Err(Unreadable::Lacks(limits(figures))),
-    }
+    Station::new(figures, factors).map_err(|_| Unreadable::Lacks(limits(figures)))
 }

@@ -28,8 +28,8 @@ impl Verb {
         Verb::Hold,
     ];
 
-    // The word itself. `printout` has these words too, for the calls of `history`: a journal's text stands on neither, and one
-    // enum for both would need a crate below them.
+    // The word itself. `printout` has these words too: verbs are no matter of `words`, and `printout`'s come from calls of
+    // `history`, by a `From` that must stand where one of its types does; one enum for both would need a crate below the two.
     fn text(self) -> &'static str
         ensures { result.now ≡ verb_text self }
     {
