@@ -61,15 +61,14 @@ fn run(rt: &HostRuntime) -> anyhow::Result<()> {
     up_to_an_order(&mut other_calls)?;
     let bank = stations()?;
     let places = bank.places();
-    let other = NewHouse {
+    let other_house = NewHouse {
         bank: One::new(agreement()),
         methodology: ThreeIntervals,
         serial: OTHER_SERIAL,
     };
-    let other = other.perform_alone(heap, &other_calls)?;
-    let Ok((house, answers)) = perform_quarter(heap, bank, other, &calls) else {
-        return Err(anyhow!("the calls are not performed"));
-    };
+    let other = other_house.perform_alone(heap, &other_calls)?;
+    let performed = perform_quarter(heap, bank, other, &calls);
+    let (house, answers) = performed.map_err(|_| anyhow!("the calls are not performed"))?;
     let mut printer = Printer::new();
     for (call, answer) in calls.iter().zip(answers.iter()) {
         printer.print(rt, call, answer)?;

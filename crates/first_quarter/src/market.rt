@@ -11,9 +11,7 @@ pub type Stations = Beside<One<TwoPart>, One<Index<Quota>>>;
 
 // 25 kWh at 60,000 grains each and all further ones at 40,000, and half as much again on all.
 pub fn stations() -> anyhow::Result<Stations> {
-    let Ok(quota) = Quota::new(25, 60_000, 40_000) else {
-        return Err(anyhow!("no quota"));
-    };
+    let quota = Quota::new(25, 60_000, 40_000).map_err(|_| anyhow!("no quota"))?;
     let left = One::new(agreement());
     let right = One::new(Index::new(quota, 1_500_000));
     Ok(Beside::new(left, right))
@@ -21,10 +19,7 @@ pub fn stations() -> anyhow::Result<Stations> {
 
 // What a meter measured: kW, and kWh by night, in the morning and in the evening.
 fn reading(kind: Kind, number: u8, demand: u32, energies: [u32; 3]) -> anyhow::Result<Reading> {
-    let Ok(reading) = measured(kind, number, demand, energies) else {
-        return Err(anyhow!("these figures make no reading"));
-    };
-    Ok(reading)
+    measured(kind, number, demand, energies).map_err(|_| anyhow!("these figures make no reading"))
 }
 
 // What the station at a place sent in.

@@ -14,8 +14,8 @@ pub struct RefusedFile {
     pub refusal: Refusal,
 }
 
-// Two tables side by side: the calls are performed as a slice, and a refused file makes none.
 // The calls in their order; and for each entry of the journal the file that was refused in place of a call, if one was.
+// Two tables side by side: the calls are performed as a slice, and a refused file makes none.
 #[derive(Drop)]
 pub struct List {
     pub calls: Vec<Call>,
@@ -74,8 +74,6 @@ impl Source<'_> {
 // The reading of a meter file, or the file's refusal.
 fn reading_of(bytes: &[u8], verb: Verb) -> Result<Reading, RefusedFile> {
     let mut reading = Reading::empty();
-    match read_file(bytes, &mut reading) {
-        Ok(()) => Ok(reading),
-        Err(refusal) => Err(RefusedFile { verb, refusal }),
-    }
+    read_file(bytes, &mut reading).map_err(|refusal| RefusedFile { verb, refusal })?;
+    Ok(reading)
 }
