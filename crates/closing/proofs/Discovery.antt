@@ -3,9 +3,6 @@ use Rattle.std.proofs.Common.{◌≡◌, ℕ, ◌*◌, ◌<◌, ◌≤◌, Bool,
 use Rattle.std.proofs.lemmas.Bool.Decides.{nat_tests}
 use Rattle.methodology.specs.Meaning.{OneToTwo}
 
-pub positive : (q : ℕ) → (q ≡ 0 → ⊥) → 0 < q
-positive q n = omega arith
-
 -- energy sent in that is not out of its range is in it
 pub fitting : (q s : ℕ) → ((q ≤ s → s ≤ 2 * q → ⊥) → ⊥) → OneToTwo q s
 fitting q s h = grind arith

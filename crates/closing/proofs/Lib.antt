@@ -2,5 +2,4 @@ pub mod Bounds
 pub mod Costs
 pub mod Discovery
 pub mod Settling
-pub mod Made
 pub mod Searching

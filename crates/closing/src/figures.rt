@@ -45,7 +45,7 @@ impl<M: Methodology> CaseHead<'_, M> {
     pub fn is_demand(&self) -> bool
         ensures { result ≡ nat_le self.now.k M.shape.revenues }
     {
-        self.k <= M::shape().revenues
+        M::shape().head(self.k + 1).is_demand()
     }
 
     // Its rate limit.

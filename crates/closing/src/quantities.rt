@@ -28,7 +28,7 @@ impl<M: Methodology> CaseHead<'_, M> {
         ensures value { result ≡ at_head quantity self.now }
         ensures most { result ≤ carry_limit }
     {
-        // No `sum`: what a closure gives has no bound that is found.
+        // A chain with `sum` was tried: that the total fits was not found, nor what it comes to.
         let mut sum = 0;
         for licensee in &self.case.month.licensees {
             sum += taken_by(licensee, self.k);

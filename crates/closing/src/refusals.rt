@@ -13,17 +13,17 @@ use methodology::Methodology;
 const BALANCE_LIMIT: u128 = 4_000_000_000_000_000_000;
 
 // The number of the first head that a test is true of.
-// No `find`: that asks that the test can be called at any number, and the tests here ask that it is a head's.
 fn first_head<F: Fn(usize) -> bool>(heads: usize, test: F) -> Option<usize>
     requires { (k : ℕ) → k < heads → F.pre test k }
     ensures { Told (F.post test) heads result }
 {
-    for k in 0..heads {
-        if test(k) {
-            return Some(k + 1);
-        }
-    }
-    None
+    (0..heads)
+        .find(
+            |k|
+                requires { F.pre test k.now }
+            { test(*k) },
+        )
+        .map(|k| k + 1)
 }
 
 impl<M: Methodology> CaseHead<'_, M> {

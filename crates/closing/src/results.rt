@@ -82,7 +82,7 @@ impl<M: Methodology> Findings<'_, M> {
     pub fn margin(&self) -> i64
         ensures { result ≡ sum_toℤ (margin (seen_in self.now)) (heads (seen_in self.now)) }
     {
-        // No `sum`: of signed numbers it has no bound that is found.
+        // A chain with `sum` was tried: that the signed total fits was not found, nor what it comes to.
         let mut sum = 0;
         for found in &self.heads[..self.case.heads()] {
             sum += found.margin;

@@ -1,5 +1,4 @@
 pub mod Summing
-pub mod Filling
 pub mod Tallying
 pub mod Telling
 pub mod Stating

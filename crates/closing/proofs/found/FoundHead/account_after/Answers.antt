@@ -1,24 +1,20 @@
 use Rattle.std.proofs.Common.{ap, arith}
 use Rattle.std.proofs.lemmas.Int.{ints}
-use Rattle.accounts.specs.Limits.{balance_limit}
-use Rattle.closing.proofs.Settling.{not_past}
 use Rattle.closing.proofs.found.FoundHead.account_after.Goals as goal
 
 pub overflow_cast-result : goal.overflow_cast-result
 overflow_cast-result g c =
     let e = c.balance.ensures in
-    let h = not_past _ balance_limit c.requires in
-    omega (arith, ints)
+    omega (arith, ints, c.requires)
 
 pub returns : goal.returns
 returns g c =
     let e = c.balance.ensures in
-    let h = not_past _ balance_limit c.requires in
     let opened = ap (λ a. a.opening) c.account-account.ensures in
     let recalled = ap (λ a. a.before) c.account-account.ensures in
     record {
-      balance_is = omega (arith, ints);
+      balance_is = omega (arith, ints, c.requires);
       carry_is = c.args.self.now.found.carry_is;
-      opening_is = omega (arith, ints);
-      before_is = omega (arith, ints);
+      opening_is = omega (arith, ints, c.requires);
+      before_is = omega (arith, ints, c.requires);
     }

@@ -1,13 +1,13 @@
 use Rattle.std.proofs.Common.{◌≡◌, true, leb, refl, sym, ◌∙◌, arith}
 use Rattle.std.proofs.lemmas.Int.{ints}
 use Rattle.settlement.specs.Closing.{spread, margin}
-use Rattle.closing.proofs.Discovery.{positive, fitting, interval}
+use Rattle.closing.proofs.Discovery.{fitting, interval}
 use Rattle.closing.proofs.head.CaseHead.spread.Goals as goal
 
 pub interval_spread-requires : goal.interval_spread-requires
 interval_spread-requires g c =
     let h = interval c.is_demand.result c.args.self.now.k g.M.Methodology.shape.revenues c.is_demand.ensures c.if-is_demand.false in
-    (h, positive _ c.requires.some, fitting _ _ (λ n. c.requires.supplied (h, n)))
+    (h, omega (arith, c.requires.some), fitting _ _ (λ n. c.requires.supplied (h, n)))
 
 pub returns-then-is_demand : goal.returns-then-is_demand
 unfolding spread margin
