@@ -32,11 +32,12 @@ use Rattle.history.specs.declared.call.Spending.TheVariants.{Release, Hold}
 use Rattle.history.specs.declared.call.Stated.{Stated}
 use Rattle.history.specs.declared.answer.Answer.{Answer}
 use Rattle.history.specs.declared.answer.Answer.TheVariants.{Metered}
-use Rattle.history.specs.Slots.{slot, in_slots}
+use Rattle.history.specs.declared.numbered.Orders.{Orders}
+use Rattle.history.specs.Slots.{slot, in_slots, slots_of}
 use Rattle.history.specs.Presenting.{Spends, After, Missing, Presentation}
 use Rattle.history.specs.Histories.{told, answer_to, named, hand_drawn, Makes, History, begun, made, lacking, Performed, Next}
 use Rattle.history.specs.Bearing.{any_bears, all_bear, Foreign}
-use Rattle.history.specs.Steps.{meter_told, Meters, close_told, Closes, draw_told, Draws}
+use Rattle.history.specs.Steps.{meter_told, Meters, close_told, Closes, draw_told, Draws, Stepped}
 use Rattle.history.proofs.Slots.{none_not_some, some_same, numbered, without_long, among_slots, slots_more}
 
 -- orders of other houses
@@ -191,6 +192,10 @@ drawn_long (Err why) hand = omega arith
 
 pub draws_long : (v : View) (place : ℕ) (hand : List (Option PayOrder)) (a : Answer) (hand' : List (Option PayOrder)) (w : View) → Draws v place hand a hand' w → length hand' ≤ length hand + 1
 draws_long v place hand a hand' w (r, is, left, m) = let most = drawn_long r hand in let same = ap length left in omega arith
+
+-- a call that leaves every order where it was
+pub stays : {c : Call} {a : Answer} {v w : View} {hand others : Orders} → ((shape : Shape) (market : Market) (row : List Meaning) (serial : ℕ) → Next shape market row serial (slots_of others) c a (slots_of hand) v (slots_of hand) w) → Stepped c a v hand others w hand others
+stays next = record { next = next; others_stay = refl; long = omega arith; room = refl }
 
 -- the first calls of a list are performed, and one more is made
 pub one_more : (shape : Shape) (market : Market) (row : List Meaning) (serial : ℕ) (others₁ others : List (Option PayOrder)) (calls : List Call) (n : ℕ) (c : Call) (a : Answer) (answers answers' : List Answer) (hand hand' : List (Option PayOrder)) (v w : View) → n < length calls → c ≡ get_or calls n c → others₁ ≡ others → Next shape market row serial others₁ c a hand v hand' w → answers' ≡ answers ++ a ∷ [] → Performed shape market row serial others (take n calls) answers hand v → Performed shape market row serial others (take (n + 1) calls) answers' hand' w

@@ -12,17 +12,16 @@ use methodology::ThreeIntervals;
 use orders::PayOrder;
 use std::alloc::Global;
 use std::test::Fail;
-use tariffs::Row;
 
 // The number that the other house's orders bear.
 const OTHER: u64 = 8;
 
-// `worked_cases` has this market too, above crates that these tests have no use for.
+// `worked_cases` has this market too, above crates that these tests have no use for: taking it from there is no plainer.
 type Market = House<One<TwoPart>, ThreeIntervals>;
 
 // The other house takes its first reading, for which 5,500,000 grains are due.
 fn metered(house: &mut Market) -> Result<(), Refusal> {
-    house.year(&Row::of(&[1_000, 100]))?;
+    house.year(&worked_figures::year())?;
     house.tariff(&filing())?;
     house.meter(&sent())
 }
@@ -67,9 +66,7 @@ fn an_order_of_another_house_comes_back(rt: HostRuntime) -> Result<(), Fail> {
     let calls = calls_in(rt.alloc(), &list)?;
     let mut other: Market = House::new(One::new(agreement()), ThreeIntervals, OTHER);
     metered(&mut other).map_err(|_| "the other house takes no reading")?;
-    let Ok(order) = other.draw(1) else {
-        return Err("nothing stands at the place".into());
-    };
+    let order = other.draw(1).map_err(|_| "nothing stands at the place")?;
     let on_orders = other.ledger().till.money(1).on_orders;
     let (outcome, order) = answers_beside(rt.alloc(), order, &calls);
     other.hold(order).unwrap();

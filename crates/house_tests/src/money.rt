@@ -1,5 +1,5 @@
-// The money of a place that is not drawn for years, and an order of another house.
-use crate::market::{answers_of, check_told, filing, metered, refusal_at, year};
+// The money of a place that is not drawn for years.
+use crate::market::{answers_of, check_told, filing, metered, year};
 use crate::told::Told;
 use agreements::TwoPart;
 use banks::One;
@@ -67,8 +67,8 @@ fn twenty_months(calls: &mut Vec<Call>) -> Result<(), AllocError> {
 
 // None of the first so many calls is refused.
 fn check_accepted(rt: &impl Abort, answers: &[Answer], count: usize) {
-    for place in 0..count {
-        assert_eq!(rt; refusal_at(answers, place), None, "at {place}");
+    for (place, answer) in answers.iter().take(count).enumerate() {
+        assert_eq!(rt; answer.refusal(), None, "at {place}");
     }
 }
 

@@ -16,7 +16,7 @@ impl Total {
         requires callable { F.IsAlwaysCallable amount }
         ensures { (each : T → ℕ) → ((x : _) (n : ℕ) → F.post amount x n → n ≡ each x.now) → result.sum ≡ sum_by each items.now }
     {
-        // No chain: for a `sum` by a closure the check has no bound.
+        // Tried as a chain: for a `sum` by a closure the check has no bound.
         let mut sum = 0;
         for item in items {
             sum += u128::from(amount(item));

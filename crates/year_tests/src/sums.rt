@@ -18,7 +18,7 @@ pub fn sheets_of(heap: Global, answers: &[Answer]) -> Result<Vec<Sheet>, AllocEr
 const DEMAND: i128 = 90;
 
 // What the months spread under a revenue, grains: each month's rate over the demand, and what it carries on less what the
-// month before carried on.
+// month before carried on. A loop: what is carried goes along from one sheet to the next.
 pub fn spread(sheets: &[Sheet], head: usize, before: u64) -> i128
     requires { head < 6 }
 {
@@ -44,7 +44,7 @@ fn billed(sheet: &Sheet) -> i128 {
         .fold(0, |sum, bill| sum.wrapping_add(bill))
 }
 
-// The account over all sheets, grains: the bills and the margins of each, and what stands on the last one.
+// The account over all sheets, grains: the bills and the margins of each.
 pub fn accounted(sheets: &[Sheet]) -> i128 {
     sheets
         .iter()
@@ -52,15 +52,20 @@ pub fn accounted(sheets: &[Sheet]) -> i128 {
         .fold(0, |sum, more| sum.wrapping_add(more))
 }
 
+// What stands on the last sheet, grains: the fractions of the licensees, the balances and the carries of the heads.
 pub fn standing(last: &Sheet) -> i128 {
-    let mut sum: i128 = 0;
-    for billed in last.licensees.iter().flatten() {
-        sum = sum.wrapping_add(i128::from(billed.fraction));
-    }
-    for line in &last.heads {
-        sum = sum.wrapping_add(i128::from(line.balance) + i128::from(line.carry));
-    }
-    sum
+    let fractions = last
+        .licensees
+        .iter()
+        .flatten()
+        .map(|billed| i128::from(billed.fraction));
+    let heads = last
+        .heads
+        .iter()
+        .map(|line| i128::from(line.balance) + i128::from(line.carry));
+    fractions
+        .chain(heads)
+        .fold(0, |sum, more| sum.wrapping_add(more))
 }
 
 // The sum of what each answer counts for.

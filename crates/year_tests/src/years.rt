@@ -90,12 +90,15 @@ fn check_account(
     plan: &Plan,
 ) -> Result<(), Fail> {
     let last = sheets.last().ok_or("no month is closed")?;
-    let mut income = dues(answers);
-    assert_eq!(rt; income, 24 * 5_500_000);
+    let dues = dues(answers);
+    assert_eq!(rt; dues, 24 * 5_500_000);
     assert_eq!(rt; payments(answers), 24 * 550);
-    for figure in plan.revenues.iter().flat_map(|row| &row.figures) {
-        income = income.wrapping_add(10_000 * i128::from(*figure));
-    }
+    let income = plan
+        .revenues
+        .iter()
+        .flat_map(|row| &row.figures)
+        .map(|figure| 10_000 * i128::from(*figure))
+        .fold(dues, |sum, more| sum.wrapping_add(more));
     assert_eq!(rt; accounted(sheets).wrapping_add(standing(last)), income);
     Ok(())
 }

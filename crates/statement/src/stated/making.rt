@@ -22,10 +22,8 @@ use accounts::{Books, PLACES};
 use banks::Bank;
 use history::{Call, Performance};
 use methodology::Methodology;
+use orders::CENT;
 use std::array;
-
-// Grains in a cent.
-const CENT: u128 = 10_000;
 
 // Most calls that are added up.
 pub const CALL_LIMIT: usize = 4_294_967_296;
@@ -43,7 +41,7 @@ fn balances_in(books: &Books, heads: usize) -> i128
     ensures value { result ≡ balances_in heads books.now }
     ensures bound { unsigned_abs result ≤ 2 ^ 67 }
 {
-    // No chain: for a `sum` of signed numbers the check has no bound.
+    // Tried as a chain: for a `sum` of signed numbers the check has no bound.
     let mut sum = 0;
     for account in &books.accounts[..heads] {
         sum += i128::from(account.balance);
@@ -67,13 +65,13 @@ impl Sources<'_> {
         let tally = self.tally;
         let books = &self.ledger.books;
         Account {
-            bills: CENT * tally.bills,
+            bills: u128::from(CENT) * tally.bills,
             fractions: fractions_in(books).sum,
             balances: balances_in(books, self.heads),
             carries: carries_in(books, self.heads).sum,
             margins: tally.margins,
             dues: tally.dues,
-            revenues: CENT * tally.shares,
+            revenues: u128::from(CENT) * tally.shares,
         }
     }
 
@@ -83,11 +81,10 @@ impl Sources<'_> {
         ensures { Holds self.now.tally.now self.now.ledger.now.till (before + 1) result }
     {
         let place = self.tally.places[before];
-        // There are 32 places, so the cast leaves the number as it is.
-        let money = self.ledger.till.money(before as u8 + 1);
+        let money = self.ledger.till.money(u8::try_from(before + 1).unwrap());
         PlaceMoney {
-            released: CENT * place.released,
-            in_hand: CENT * u128::from(money.on_orders),
+            released: u128::from(CENT) * place.released,
+            in_hand: u128::from(CENT) * u128::from(money.on_orders),
             standing: u128::from(money.standing),
             terms: place.given,
         }

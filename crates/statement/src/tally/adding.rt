@@ -17,6 +17,7 @@ use history::{Answer, Call};
 use metering::index_of;
 use methodology::Shape;
 use rates::REVENUES;
+use std::array;
 use tariffs::Row;
 
 // The cents of a licensee's line, if it has one.
@@ -54,7 +55,8 @@ impl PlaceTally {
     }
 }
 
-// So many grains and cents more at a place, where there is such a place.
+// So many grains and cents more at a place, where there is such a place. For its own sums `take`
+// needs to be told the range of both.
 fn more_at(places: &mut [PlaceTally; PLACES], place: u8, given: u64, released: u64)
     requires { (k : ℕ) → k < place_limit → Small (2 ^ 127) (slice_index_or places.old k no_tally) }
     ensures value { places.new ≡ more_at places.old place given released }
@@ -89,7 +91,7 @@ impl Tally {
     fn file(&mut self, row: &Row)
         ensures { self.new ≡ with_year row.now self.old }
     {
-        self.yearly = [row.figure(0), row.figure(1), row.figure(2)];
+        self.yearly = array::from_fn(|j| row.figure(j));
     }
 
     // A month was closed on this sheet.

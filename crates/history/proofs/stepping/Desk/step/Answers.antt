@@ -1,52 +1,27 @@
-use Rattle.std.proofs.Common.{refl, arith}
+use Rattle.std.proofs.Common.{refl}
 use Rattle.history.specs.Slots.{slots_of}
-use Rattle.history.proofs.Steps.{next_year, next_tariff, next_meter, next_deliver, next_close, next_draw, draws_long}
+use Rattle.history.proofs.Steps.{next_year, next_tariff, next_meter, next_deliver, next_close, next_draw, draws_long, stays}
 use Rattle.history.proofs.stepping.Desk.step.Goals as goal
 
 pub returns-in-Year : goal.returns-in-Year
 returns-in-Year g c =
-    record {
-      next = λ shape market row serial. rw c.in-Year.is (next_year shape market row serial (slots_of c.args.others.now) c.in-Year.given c.year.result c.into.result _ _ _ c.into.ensures c.year.ensures);
-      others_stay = refl;
-      long = omega arith;
-      room = refl;
-    }
+    stays (λ shape market row serial. rw c.in-Year.is (next_year shape market row serial (slots_of c.args.others.now) c.in-Year.given c.year.result c.into.result _ _ _ c.into.ensures c.year.ensures))
 
 pub returns-in-Tariff : goal.returns-in-Tariff
 returns-in-Tariff g c =
-    record {
-      next = λ shape market row serial. rw c.in-Tariff.is (next_tariff shape market row serial (slots_of c.args.others.now) c.in-Tariff.given c.tariff.result c.into-in-Tariff.result _ _ _ c.into-in-Tariff.ensures c.tariff.ensures);
-      others_stay = refl;
-      long = omega arith;
-      room = refl;
-    }
+    stays (λ shape market row serial. rw c.in-Tariff.is (next_tariff shape market row serial (slots_of c.args.others.now) c.in-Tariff.given c.tariff.result c.into-in-Tariff.result _ _ _ c.into-in-Tariff.ensures c.tariff.ensures))
 
 pub returns-in-Meter : goal.returns-in-Meter
 returns-in-Meter g c =
-    record {
-      next = λ shape market row serial. rw c.in-Meter.is (next_meter shape market row serial (slots_of c.args.others.now) c.in-Meter.given c.meter.result _ _ _ c.meter.ensures);
-      others_stay = refl;
-      long = omega arith;
-      room = refl;
-    }
+    stays (λ shape market row serial. rw c.in-Meter.is (next_meter shape market row serial (slots_of c.args.others.now) c.in-Meter.given c.meter.result _ _ _ c.meter.ensures))
 
 pub returns-in-Deliver : goal.returns-in-Deliver
 returns-in-Deliver g c =
-    record {
-      next = λ shape market row serial. rw c.in-Deliver.is (next_deliver shape market row serial (slots_of c.args.others.now) c.in-Deliver.given c.deliver.result c.into-in-Deliver.result _ _ _ c.into-in-Deliver.ensures c.deliver.ensures);
-      others_stay = refl;
-      long = omega arith;
-      room = refl;
-    }
+    stays (λ shape market row serial. rw c.in-Deliver.is (next_deliver shape market row serial (slots_of c.args.others.now) c.in-Deliver.given c.deliver.result c.into-in-Deliver.result _ _ _ c.into-in-Deliver.ensures c.deliver.ensures))
 
 pub returns-in-Close : goal.returns-in-Close
 returns-in-Close g c =
-    record {
-      next = λ shape market row serial. rw c.in-Close.is (next_close shape market row serial (slots_of c.args.others.now) c.in-Close.stated c.close.result _ _ _ c.close.ensures);
-      others_stay = refl;
-      long = omega arith;
-      room = refl;
-    }
+    stays (λ shape market row serial. rw c.in-Close.is (next_close shape market row serial (slots_of c.args.others.now) c.in-Close.stated c.close.result _ _ _ c.close.ensures))
 
 pub returns-in-Draw : goal.returns-in-Draw
 returns-in-Draw g c =
