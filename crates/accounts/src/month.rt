@@ -12,11 +12,11 @@ use rates::HEADS;
 pub mod adding;
 pub mod tally;
 
-// Most places that a market has, as the length of a list.
+// Most places that a market has, as the length of a list. A cast, since a constant cannot call `From`.
 pub const PLACES: usize = metering::PLACES as usize;
 
-// Two tables by head side by side: every head has income, an interval energy as well, and the law sums each by itself.
-// What the readings of a month come to so far. Tables by head have head 1 first, lists place 1 or licensee 1.
+// What the readings of a month come to so far. Tables by head have head 1 first, lists place 1 or licensee 1. Income and
+// energy stay two tables: each has a bound of its own, the law sums the income alone, and a table of both would be no plainer.
 #[derive(Clone, Copy)]
 pub struct Month {
     // Dues, in grains: for capacity at generation, for blocks at their interval, nothing at the revenues.

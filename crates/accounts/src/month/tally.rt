@@ -53,10 +53,8 @@ impl Month {
     pub fn has_delivered(&self, licensee: u8) -> bool
         ensures { result ≡ (nat_le 1 licensee && delivered_at self.now licensee) }
     {
-        // As a closure, `|i| self.licensees[i].is_some()` would leave the bound of `i` open.
-        match index_of(usize::from(licensee), LICENSEES) {
-            Some(i) => self.licensees[i].is_some(),
-            None => false,
-        }
+        index_of(usize::from(licensee), LICENSEES)
+            .and_then(|i| self.licensees.get(i))
+            .is_some_and(|delivery| delivery.is_some())
     }
 }
