@@ -13,7 +13,7 @@ pub enum Answer {
     Metered(u64),
     // The month was closed: its sheet.
     Closed(Sheet),
-    // An order was drawn: its place and its cents.
+    // An order was drawn: its place and its cents. Plain numbers, as all here, and no `Paid`, which is of an order that was.
     Drawn(u8, u64),
     // An order was released: its place and its cents.
     Paid(u8, u64),

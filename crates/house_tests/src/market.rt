@@ -14,7 +14,8 @@ pub use worked_figures::{agreement, sent, taken, tariff as filing};
 // The number that the house's pay orders bear.
 pub const SERIAL: u64 = 7;
 
-// What a meter measured in each block: kW, and kWh.
+// What a meter measured in each block: kW, and kWh. A reading that is refused is told as one with nothing in it, here and
+// below, so that each list of calls can be written down at once; none of these is refused.
 pub fn metered(kind: Kind, number: u32, demand: u32, blocks: [u32; BLOCKS]) -> Reading {
     let figures = Figures {
         kind: u32::from(kind),
