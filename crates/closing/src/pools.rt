@@ -20,10 +20,7 @@ fn share_of(revenues: &Revenues, count: usize, number: u8, k: usize) -> u64
     ensures value { result ≡ share_of count revenues.now.yearly number k }
     ensures most { result ≤ yearly_limit }
 {
-    match index_of(k, count) {
-        Some(j) => month_share(revenues.yearly[j], number),
-        None => 0,
-    }
+    index_of(k, count).map_or(0, |j| month_share(revenues.yearly[j], number))
 }
 
 impl<M: Methodology> CaseHead<'_, M> {
