@@ -1,17 +1,17 @@
-// What lasts under a head from month to month.
+//! What lasts under a head from month to month.
 ghost use Rattle.std.specs.Prelude.{◌*◌, ◌≤◌, unsigned_abs};
 ghost use Rattle.accounts.specs.Limits.{balance_limit, carry_limit};
 
-// A head's account, in grains; a grain is 1/10,000 of a cent.
+/// A head's account, in grains; a grain is 1/10,000 of a cent.
 #[derive(Clone, Copy)]
 pub struct Account {
-    // What the transactions account holds: the differences of all closed months.
+    /// What the transactions account holds: the differences of all closed months.
     pub balance: i64,
-    // The balance when this tariff period began.
+    /// The balance when this tariff period began.
     pub opening: i64,
-    // The sum of differences of the period before this one.
+    /// The sum of differences of the period before this one.
     pub before: i64,
-    // What the last closing could not spread.
+    /// What the last closing could not spread.
     pub carry: u64,
     ghost held: { unsigned_abs balance ≤ balance_limit },
     ghost opened: { unsigned_abs opening ≤ balance_limit },

@@ -1,4 +1,4 @@
-// What lasts from month to month.
+//! What lasts from month to month.
 ghost use Rattle.std.specs.Prelude.{◌≡◌, ℕ, ◌<◌, length, slice_index};
 ghost use Rattle.methodology.specs.Limits.{head_limit};
 ghost use Rattle.accounts.specs.Limits.{licensee_limit, cent};
@@ -9,7 +9,7 @@ use rates::HEADS;
 
 pub mod periods;
 
-// The heads' accounts, head 1 first, and each licensee's fraction of a cent, in grains, licensee 1 first.
+/// The heads' accounts, head 1 first, and each licensee's fraction of a cent, in grains, licensee 1 first.
 #[derive(Clone, Copy)]
 pub struct Books {
     pub accounts: [Account; HEADS],

@@ -1,4 +1,4 @@
-// The account in plain numbers: the heads' accounts, the licensees' fractions, the open month, the sheet.
+//! The account in plain numbers: the heads' accounts, the licensees' fractions, the open month, the sheet.
 #![tactic(auto)]
 
 pub mod account;

@@ -1,4 +1,4 @@
-// The open month, as sums.
+//! The open month, as sums.
 ghost use Rattle.std.specs.Prelude.{◌≡◌, ℕ, ◌*◌, ◌<◌, ◌≤◌, length, slice_index};
 ghost use Rattle.methodology.specs.Limits.{head_limit};
 ghost use Rattle.agreements.specs.Limits.{due_limit};
@@ -12,20 +12,20 @@ use rates::HEADS;
 pub mod adding;
 pub mod tally;
 
-// Most places that a market has, as the length of a list. A cast, since a constant cannot call `From`.
+/// Most places that a market has, as the length of a list. A cast, since a constant cannot call `From`.
 pub const PLACES: usize = metering::PLACES as usize;
 
-// What the readings of a month come to so far. Tables by head have head 1 first, lists place 1 or licensee 1. Income and
-// energy stay two tables: each has a bound of its own, the law sums the income alone, and a table of both would be no plainer.
+/// What the readings of a month come to so far. Tables by head have head 1 first, lists place 1 or licensee 1. Income and
+/// energy stay two tables: each has a bound of its own, the law sums the income alone, and a table of both would be no plainer.
 #[derive(Clone, Copy)]
 pub struct Month {
-    // Dues, in grains: for capacity at generation, for blocks at their interval, nothing at the revenues.
+    /// Dues, in grains: for capacity at generation, for blocks at their interval, nothing at the revenues.
     pub income: [u64; HEADS],
-    // Energy sent in, kWh, at the intervals.
+    /// Energy sent in, kWh, at the intervals.
     pub sent: [u64; HEADS],
-    // The places that were read.
+    /// The places that were read.
     pub read: [bool; PLACES],
-    // The licensees that delivered, with what each took.
+    /// The licensees that delivered, with what each took.
     pub licensees: [Option<Delivery>; LICENSEES],
     ghost headed: { length income ≡ head_limit },
     ghost metered: { length sent ≡ head_limit },

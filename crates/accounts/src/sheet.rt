@@ -1,11 +1,11 @@
-// The sheet of a closing.
+//! The sheet of a closing.
 use crate::delivery::LICENSEES;
 use methodology::Shape;
 use rates::HEADS;
 
 pub mod blank;
 
-// A head's line: the rates, grains per kW or per kWh, and the account as it then stands, in grains.
+/// A head's line: the rates, grains per kW or per kWh, and the account as it then stands, in grains.
 #[derive(Clone, Copy, Default)]
 pub struct HeadLine {
     pub actual: u64,
@@ -14,15 +14,15 @@ pub struct HeadLine {
     pub carry: u64,
 }
 
-// A licensee's line: the bill in cents, and the fraction of a cent that is left for the next one, in grains.
+/// A licensee's line: the bill in cents, and the fraction of a cent that is left for the next one, in grains.
 #[derive(Clone, Copy)]
 pub struct Billed {
     pub bill: u64,
     pub fraction: u64,
 }
 
-// The month, 1 to 12, and the heads that its lines are for, head 1 first; licensee 1 stands first.
-// Lines past the market's heads say nothing. The margin, in grains, is summed over the intervals.
+/// The month, 1 to 12, and the heads that its lines are for, head 1 first; licensee 1 stands first.
+/// Lines past the market's heads say nothing. The margin, in grains, is summed over the intervals.
 #[derive(Clone, Copy)]
 pub struct Sheet {
     pub month: u8,

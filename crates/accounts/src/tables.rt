@@ -1,4 +1,4 @@
-// Tables by head: blocks go to the head of their interval.
+//! Tables by head: blocks go to the head of their interval.
 ghost use Rattle.std.specs.Prelude.{◌≡◌, ℕ, ◌+◌, ◌^◌, ◌<◌, ◌≤◌, if◌then◌else◌, nat_eq, nat_le, slice_index};
 ghost use Rattle.methodology.specs.Limits.{head_limit};
 ghost use Rattle.accounts.specs.Limits.{balance_limit};
@@ -9,7 +9,7 @@ use methodology::{Methodology, head_of_block};
 use rates::HEADS;
 use std::array;
 
-// At generation stands `first`, at the revenues `others`, at an interval the sum of its blocks.
+/// At generation stands `first`, at the revenues `others`, at an interval the sum of its blocks.
 pub fn by_head<M: Methodology>(
     m: &M,
     first: u64,
@@ -26,7 +26,7 @@ pub fn by_head<M: Methodology>(
     all
 }
 
-// The same before any block.
+/// The same before any block.
 fn by_demand(revenues: usize, first: u64, others: u64) -> [u64; HEADS]
     ensures { (k : ℕ) → k < head_limit → slice_index result k ≡ (if nat_eq k 0 then first else (if nat_le k revenues then others else 0)) }
 {
@@ -41,7 +41,7 @@ fn by_demand(revenues: usize, first: u64, others: u64) -> [u64; HEADS]
     })
 }
 
-// a + b, head by head.
+/// a + b, head by head.
 pub fn added(a: &[u64; HEADS], b: &[u64; HEADS]) -> [u64; HEADS]
     requires { (((k : ℕ) → k < head_limit → slice_index a.now k ≤ balance_limit)) × (((k : ℕ) → k < head_limit → slice_index b.now k ≤ balance_limit)) }
     ensures { (k : ℕ) → k < head_limit → slice_index result k ≡ slice_index a.now k + slice_index b.now k }
@@ -49,7 +49,7 @@ pub fn added(a: &[u64; HEADS], b: &[u64; HEADS]) -> [u64; HEADS]
     array::from_fn(|k| a[k] + b[k])
 }
 
-// The same energies as wider numbers.
+/// The same energies as wider numbers.
 pub fn widened(blocks: &[u32; BLOCKS]) -> [u64; BLOCKS]
     ensures { result ≡ blocks.now }
 {

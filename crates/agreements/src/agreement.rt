@@ -1,4 +1,4 @@
-// The trait of agreements.
+//! The trait of agreements.
 ghost use Rattle.std.specs.Prelude.{◌≡◌};
 ghost use Rattle.metering.specs.declared.reading.Reading.{Reading};
 ghost use Rattle.agreements.specs.Meaning.{Meaning, Lawful, answer, outcome, written, moved};
@@ -7,28 +7,28 @@ use crate::dues::Dues;
 use crate::fault::Fault;
 use metering::Reading;
 
-// An agreement prices readings. It may keep a standing, as what is left of a quota, which only booking moves.
-// All that generic code knows of it is its meaning. It is a rule here that dues go into the caller's table, which a fault
-// leaves, so they are no result.
+/// An agreement prices readings. It may keep a standing, as what is left of a quota, which only booking moves.
+/// All that generic code knows of it is its meaning. It is a rule here that dues go into the caller's table, which a fault
+/// leaves, so they are no result.
 pub trait Agreement {
-    // Its layer number, its standing and its terms.
+    /// Its layer number, its standing and its terms.
     ghost meaning: { Self → Meaning };
 
-    // Its layer number: 0 for an agreement that stands on no other, one more for each layer above.
+    /// Its layer number: 0 for an agreement that stands on no other, one more for each layer above.
     fn layer(&self) -> u8
         ensures { result ≡ (meaning self.now).layer };
 
-    // Writes the dues of the reading into the table, or answers the fault and leaves the table.
+    /// Writes the dues of the reading into the table, or answers the fault and leaves the table.
     fn ask(&self, reading: &Reading, table: &mut Dues) -> Result<(), Fault>
         ensures answered { result ≡ outcome (answer (meaning self.now) reading.now) }
         ensures wrote { table.new ≡ written (answer (meaning self.now) reading.now) table.old };
 
-    // The same, and moves the standing, except at a fault.
+    /// The same, and moves the standing, except at a fault.
     fn book(&mut self, reading: &Reading, table: &mut Dues) -> Result<(), Fault>
         ensures answered { result ≡ outcome (answer (meaning self.old) reading.now) }
         ensures wrote { table.new ≡ written (answer (meaning self.old) reading.now) table.old }
         ensures moves { meaning self.new ≡ moved (meaning self.old) reading.now };
 
-    // At every standing that it can come to: the layer number and what it gives keep their limits.
+    /// At every standing that it can come to: the layer number and what it gives keep their limits.
     ghost lawful: { (a : Self) (r : Reading) → Lawful (meaning a) r };
 }

@@ -1,21 +1,21 @@
-// Why an agreement does not admit a reading, and why one is not made.
+//! Why an agreement does not admit a reading, and why one is not made.
 ghost use Rattle.std.specs.Prelude.{◌≡◌, Some};
 ghost use Rattle.agreements.specs.Faults.{cause_number, over_limit_number, fault_text, over_limit_text};
 
 use std::error::Error;
 use std::fmt;
 
-// What is wrong with the reading.
+/// What is wrong with the reading.
 #[derive(Clone, Copy, PartialEq, Eq, Debug)]
 pub enum Cause {
-    // It shows more than was contracted.
+    /// It shows more than was contracted.
     Contract,
-    // Its capacity due or its block sum would pass the ceiling.
+    /// Its capacity due or its block sum would pass the ceiling.
     Ceiling,
 }
 
 impl Cause {
-    // The cause's number.
+    /// The cause's number.
     pub fn number(self) -> u8
         ensures { result ≡ cause_number self }
     {
@@ -26,14 +26,14 @@ impl Cause {
     }
 }
 
-// A fault: its cause, and the layer that found it, 0 being the agreement at the bottom.
+/// A fault: its cause, and the layer that found it, 0 being the agreement at the bottom.
 #[derive(Clone, Copy, PartialEq, Eq, Debug)]
 pub struct Fault {
     pub cause: Cause,
     pub layer: u8,
 }
 
-// As `cause 1 layer 0`.
+/// As `cause 1 layer 0`.
 impl fmt::Display for Fault {
     ghost output = { λ e. Some (fault_text e) };
 
@@ -44,12 +44,12 @@ impl fmt::Display for Fault {
     }
 }
 
-// The refusal to make an agreement: a price, the contracted kW or the quota is over its limit.
+/// The refusal to make an agreement: a price, the contracted kW or the quota is over its limit.
 #[derive(Clone, Copy, PartialEq, Eq, Debug)]
 pub struct OverLimit;
 
 impl OverLimit {
-    // The refusal's number.
+    /// The refusal's number.
     pub fn number(self) -> u8
         ensures { result ≡ over_limit_number }
     {

@@ -1,4 +1,4 @@
-// Agreements: what a station is due for a reading.
+//! Agreements: what a station is due for a reading.
 #![tactic(auto)]
 
 pub mod agreement;

@@ -1,4 +1,4 @@
-// A tour: banks made in a program and from figures, and what they answer.
+//! A tour: banks made in a program and from figures, and what they answer.
 #![tactic(auto)]
 
 use agreements::{Dues, Index, Quota, TwoPart};
@@ -8,7 +8,7 @@ use metering::{BLOCKS, Kind, Reading, make_reading};
 use stations::{Figures, Station, Stations};
 use strangers::{Retainer, Reversed};
 
-// A generator's reading of 100 kW, with 20 kWh in block 2 and 30 kWh in block 12.
+/// A generator's reading of 100 kW, with 20 kWh in block 2 and 30 kWh in block 12.
 fn reading() -> anyhow::Result<Reading> {
     let mut blocks = [0; BLOCKS];
     blocks[2] = 20;
@@ -24,7 +24,7 @@ fn reading() -> anyhow::Result<Reading> {
     Ok(reading)
 }
 
-// Books the reading at the place and tells what came of it.
+/// Books the reading at the place and tells what came of it.
 fn tell<B: Bank>(rt: &HostRuntime, bank: &mut B, place: u8) -> anyhow::Result<()> {
     let mut table = Dues::empty();
     match bank.book_at(place, &reading()?, &mut table) {
@@ -39,8 +39,8 @@ fn tell<B: Bank>(rt: &HostRuntime, bank: &mut B, place: u8) -> anyhow::Result<()
     Ok(())
 }
 
-// Four places of four types, told from the last to the first: a quota; two two-part agreements under two index layers each,
-// one with too few kW contracted and one at a millionth (its second factor, 0, counts as 1,000,000); and a stranger under one.
+/// Four places of four types, told from the last to the first: a quota; two two-part agreements under two index layers each,
+/// one with too few kW contracted and one at a millionth (its second factor, 0, counts as 1,000,000); and a stranger under one.
 fn written_market(rt: &HostRuntime) -> anyhow::Result<()> {
     let quota = Quota::new(25, 60_000, 40_000)?;
     let scarce = TwoPart::new(99, 20_000, 50_000)?;
@@ -63,7 +63,7 @@ fn written_market(rt: &HostRuntime) -> anyhow::Result<()> {
     Ok(())
 }
 
-// One station more, under layers of 4,000,000 each.
+/// One station more, under layers of 4,000,000 each.
 fn place_one(
     rt: &HostRuntime,
     bank: &mut Stations,
@@ -87,7 +87,7 @@ fn place_one(
     Ok(())
 }
 
-// A market filed as figures: layers up to the ceiling, a figure over its limit, and a place too many.
+/// A market filed as figures: layers up to the ceiling, a figure over its limit, and a place too many.
 fn filed_market(rt: &HostRuntime) -> anyhow::Result<()> {
     let mut bank: Stations = Listed::new(rt.alloc());
     let quota = Figures::Quota {

@@ -1,13 +1,13 @@
-// The amounts that can be split.
+//! The amounts that can be split.
 ghost use Rattle.std.specs.Prelude.{◌≡◌, ℕ, ◌/◌, ◌%◌, ◌<◌};
 ghost use Rattle.arith.specs.Division.{Split};
 ghost use Rattle.arith.specs.Splits.{parts_split, split_parts};
 
-// A number of cents or grains, of 64 or of 128 bits.
+/// A number of cents or grains, of 64 or of 128 bits.
 pub trait Amount: Copy {
     ghost number: { Self → ℕ };
 
-    // The quotient and the rest.
+    /// The quotient and the rest.
     ghost parts: { Self → ℕ → Self × ℕ };
 
     fn div_rem(self, quantity: u64) -> (Self, u64)

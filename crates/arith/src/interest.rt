@@ -1,4 +1,4 @@
-// What a sum of differences comes to per unit, with interest.
+//! What a sum of differences comes to per unit, with interest.
 ghost use Rattle.std.specs.Prelude.{◌≡◌};
 ghost use Rattle.arith.specs.Interest.{adjustment_of, WorkedAdjustment};
 
@@ -6,7 +6,7 @@ use crate::division::floor_div;
 use crate::quantity::NoQuantity;
 use crate::scaling::scale_ppm_signed;
 
-// A total per unit of a quantity, and the same with interest; both are rounded towards minus infinity.
+/// A total per unit of a quantity, and the same with interest; both are rounded towards minus infinity.
 pub fn adjustment(total: i64, quantity: u64, interest_ppm: u32) -> Result<(i64, i128), NoQuantity>
     ensures value { result ≡ adjustment_of total quantity interest_ppm }
     ensures worked { WorkedAdjustment }

@@ -1,4 +1,4 @@
-// Arithmetic of the settlement house: a division that answers both numbers, floors of signed numbers, scaling, month shares.
+//! Arithmetic of the settlement house: a division that answers both numbers, floors of signed numbers, scaling, month shares.
 #![tactic(auto)]
 
 mod amount;

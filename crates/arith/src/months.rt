@@ -1,14 +1,14 @@
-// A yearly amount in twelve monthly shares.
+//! A yearly amount in twelve monthly shares.
 ghost use Rattle.std.specs.Prelude.{◌≡◌, ℕ, ◌+◌, ◌*◌, ◌/◌, ◌<◌, ◌≤◌};
 ghost use Rattle.arith.specs.Months.{months_of_year, share, shares_to};
 
 use crate::division::split;
 
-// Months in a year.
+/// Months in a year.
 pub const MONTHS: u64 = 12;
 
-// The share of a month, counted from 1, of a yearly amount: what the year so far has earned, less what it had a month before.
-// Month 0 has none, and the months of a second year go on as those of the first.
+/// The share of a month, counted from 1, of a yearly amount: what the year so far has earned, less what it had a month before.
+/// Month 0 has none, and the months of a second year go on as those of the first.
 pub fn month_share(yearly: u64, month: u8) -> u64
     ensures value { result ≡ share yearly month }
     ensures whole { shares_to yearly months_of_year ≡ yearly }
@@ -21,7 +21,7 @@ pub fn month_share(yearly: u64, month: u8) -> u64
     each + odd_cents(odd, month) - odd_cents(odd, month - 1)
 }
 
-// Of a year's odd cents, those that the months up to this one have.
+/// Of a year's odd cents, those that the months up to this one have.
 fn odd_cents(odd: u64, month: u8) -> u64
     requires { odd < months_of_year }
     ensures value { result ≡ month * odd / months_of_year }

@@ -1,15 +1,15 @@
-// Scaling by millionths and thousandths. The results are wider than what is scaled, so that none can wrap.
+//! Scaling by millionths and thousandths. The results are wider than what is scaled, so that none can wrap.
 ghost use Rattle.std.specs.Prelude.{◌≡◌, ℕ, ◌+◌, ◌*◌, ◌≤◌, pos, ◌*ℤ◌, unsigned_abs};
 ghost use Rattle.arith.specs.Division.{Floor};
 ghost use Rattle.arith.specs.Scaling.{whole_ppm, whole_thousandths, more_by, more_by_signed, thousandths, Rounded};
 
-// A whole in ppm: a ppm is a millionth.
+/// A whole in ppm: a ppm is a millionth.
 pub const WHOLE_PPM: u32 = 1_000_000;
 
-// A whole in thousandths.
+/// A whole in thousandths.
 pub const WHOLE_THOUSANDTHS: u32 = 1_000;
 
-// x with that many ppm of itself on top, rounded down.
+/// x with that many ppm of itself on top, rounded down.
 pub fn scale_ppm(x: u64, ppm: u32) -> u128
     ensures value { result ≡ more_by ppm x }
     ensures rounded { Rounded (x * (whole_ppm + ppm)) whole_ppm result }
@@ -18,8 +18,8 @@ pub fn scale_ppm(x: u64, ppm: u32) -> u128
     u128::from(x) * (u128::from(WHOLE_PPM) + u128::from(ppm)) / u128::from(WHOLE_PPM)
 }
 
-// The same of a signed number, rounded towards minus infinity. It stands beside `scale_ppm`: a trait for the two would have
-// these two bodies as its impls, and a member for each of the definitions that their clauses name.
+/// The same of a signed number, rounded towards minus infinity. It stands beside `scale_ppm`: a trait for the two would have
+/// these two bodies as its impls, and a member for each of the definitions that their clauses name.
 pub fn scale_ppm_signed(x: i64, ppm: u32) -> i128
     ensures value { result ≡ more_by_signed ppm x }
     ensures floored { Floor (x *ℤ pos (whole_ppm + ppm)) whole_ppm result }
@@ -28,7 +28,7 @@ pub fn scale_ppm_signed(x: i64, ppm: u32) -> i128
     (i128::from(x) * (i128::from(WHOLE_PPM) + i128::from(ppm))).div_euclid(i128::from(WHOLE_PPM))
 }
 
-// c thousandths of x, rounded down.
+/// c thousandths of x, rounded down.
 pub fn scale_thousandths(x: u64, c: u32) -> u128
     ensures value { result ≡ thousandths c x }
     ensures rounded { Rounded (x * c) whole_thousandths result }

@@ -1,4 +1,4 @@
-// The trait of banks.
+//! The trait of banks.
 ghost use Rattle.std.specs.Prelude.{◌≡◌, ℕ, ◌≤◌, List, length};
 ghost use Rattle.metering.specs.declared.reading.Reading.{Reading};
 ghost use Rattle.agreements.specs.Meaning.{Meaning};
@@ -9,23 +9,23 @@ use crate::refusal::BankRefusal;
 use agreements::Dues;
 use metering::Reading;
 
-// A bank holds agreements at places, which count from 1. It answers at a place as the agreement there would, into the
-// caller's table, which a refusal leaves. It is a rule here that a refusal comes up through layers and banks by `?`, so each
-// bank's two methods end alike; they differ in `ask` and `book`, and `&self` and `&mut self`.
+/// A bank holds agreements at places, which count from 1. It answers at a place as the agreement there would, into the
+/// caller's table, which a refusal leaves. It is a rule here that a refusal comes up through layers and banks by `?`, so each
+/// bank's two methods end alike; they differ in `ask` and `book`, and `&self` and `&mut self`.
 pub trait Bank {
-    // What the agreement at each place means, place 1 first.
+    /// What the agreement at each place means, place 1 first.
     ghost row: { Self → List Meaning };
 
-    // How many places it has.
+    /// How many places it has.
     fn places(&self) -> u8
         ensures { result ≡ length (row self.now) };
 
-    // Asks the agreement at the place.
+    /// Asks the agreement at the place.
     fn ask_at(&self, place: u8, reading: &Reading, table: &mut Dues) -> Result<(), BankRefusal>
         ensures answered { result ≡ outcome_at (at_place (row self.now) place) reading.now }
         ensures wrote { table.new ≡ written_at (at_place (row self.now) place) reading.now table.old };
 
-    // Books at the place: the same answer, and that agreement's standing moves. Every other standing is as it was.
+    /// Books at the place: the same answer, and that agreement's standing moves. Every other standing is as it was.
     fn book_at(&mut self, place: u8, reading: &Reading, table: &mut Dues) -> Result<(), BankRefusal>
         ensures answered { result ≡ outcome_at (at_place (row self.old) place) reading.now }
         ensures wrote { table.new ≡ written_at (at_place (row self.old) place) reading.now table.old }
@@ -33,6 +33,6 @@ pub trait Bank {
 
     ghost few: { (b : Self) → length (row b) ≤ place_limit };
 
-    // What every agreement keeps, kept at each place.
+    /// What every agreement keeps, kept at each place.
     ghost lawful: { (b : Self) (k : ℕ) (r : Reading) → LawfulAt (at_place (row b) k) r };
 }

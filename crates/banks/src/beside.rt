@@ -1,4 +1,4 @@
-// Two banks side by side are a bank, the left one's places first.
+//! Two banks side by side are a bank, the left one's places first.
 ghost use Rattle.std.specs.Prelude.{◌≡◌};
 ghost use Rattle.banks.specs.Rows.{side_by_side};
 ghost use Rattle.std.proofs.Common.{arith};
@@ -9,7 +9,7 @@ use crate::refusal::BankRefusal;
 use agreements::Dues;
 use metering::{PLACES, Reading};
 
-// Places past the 32nd are cut off.
+/// Places past the 32nd are cut off.
 #[derive(Drop)]
 pub struct Beside<L, R> {
     left: L,
@@ -24,7 +24,7 @@ impl<L, R> Beside<L, R> {
     }
 }
 
-// The side of a place, and its number there.
+/// The side of a place, and its number there.
 #[derive(Clone, Copy)]
 enum Side {
     Left(u8),
@@ -32,7 +32,7 @@ enum Side {
 }
 
 impl<L: Bank, R: Bank> Beside<L, R> {
-    // Where a place is.
+    /// Where a place is.
     fn side(&self, place: u8) -> Result<Side, BankRefusal>
         ensures { IsSide (L.Bank.row self.now.left) (R.Bank.row self.now.right) place result }
     {

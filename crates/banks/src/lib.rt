@@ -1,4 +1,4 @@
-// Banks: the agreements of a market, each at its place.
+//! Banks: the agreements of a market, each at its place.
 #![tactic(auto)]
 
 pub mod bank;

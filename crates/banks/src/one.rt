@@ -1,4 +1,4 @@
-// One agreement is a bank of one place.
+//! One agreement is a bank of one place.
 ghost use Rattle.std.specs.Prelude.{◌≡◌, ◌≢◌, [], ◌∷◌, MatchResult};
 ghost use Rattle.std.proofs.Common.{rules};
 
@@ -20,7 +20,7 @@ impl<A> One<A> {
     }
 }
 
-// Refuses any place but 1.
+/// Refuses any place but 1.
 fn only_place(place: u8) -> Result<(), BankRefusal>
     ensures { MatchResult result (λ _. place ≡ 1) (λ e. (place ≢ 1) × (e ≡ BankRefusal.NoPlace)) }
 {

@@ -1,4 +1,4 @@
-// Why a bank gives no dues.
+//! Why a bank gives no dues.
 ghost use Rattle.std.specs.Prelude.{◌≡◌, Some};
 ghost use Rattle.banks.specs.declared.refusal.BankRefusal.TheVariants.{Fault as Inner};
 ghost use Rattle.banks.specs.Refusals.{number_of, refusal_text};
@@ -8,14 +8,14 @@ use std::fmt;
 
 #[derive(Clone, Copy, PartialEq, Eq, Debug)]
 pub enum BankRefusal {
-    // The bank has no such place.
+    /// The bank has no such place.
     NoPlace,
-    // The agreement there does not admit the reading: its own fault.
+    /// The agreement there does not admit the reading: its own fault.
     Fault(Fault),
 }
 
 impl BankRefusal {
-    // The refusal's number.
+    /// The refusal's number.
     pub fn number(self) -> u8
         ensures { result ≡ number_of self }
     {
@@ -34,7 +34,7 @@ impl From<Fault> for BankRefusal {
     }
 }
 
-// As `refused 8`, or `refused 10 cause 1 layer 0`.
+/// As `refused 8`, or `refused 10 cause 1 layer 0`.
 impl fmt::Display for BankRefusal {
     ghost output = { λ e. Some (refusal_text e) };
 

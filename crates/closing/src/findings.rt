@@ -1,4 +1,4 @@
-// What a closing finds, head by head.
+//! What a closing finds, head by head.
 ghost use Rattle.std.specs.Prelude.{◌≡◌, ◌<◌};
 ghost use Rattle.accounts.specs.Sums.{Never};
 ghost use Rattle.settlement.specs.Closing.{heads, Empty, Unsupplied};
@@ -16,8 +16,8 @@ use rates::HEADS;
 use std::array;
 
 impl<M: Methodology> Case<'_, M> {
-    // What is found for the head at a place. It is the case's: of the head that `at` gives, the check did not find again what
-    // the case is known for.
+    /// What is found for the head at a place. It is the case's: of the head that `at` gives, the check did not find again what
+    /// the case is known for.
     fn finding(&self, k: usize) -> Finding
         requires place { k < heads (shows M.Methodology self.now) }
         requires some { Empty (shows M.Methodology self.now) k → ⊥ }
@@ -36,7 +36,7 @@ impl<M: Methodology> Case<'_, M> {
         }
     }
 
-    // What is found for each head.
+    /// What is found for each head.
     pub fn findings(&self) -> [Finding; HEADS]
         requires some { Never (Empty (shows M.Methodology self.now)) (heads (shows M.Methodology self.now)) }
         requires supplied { Never (Unsupplied (shows M.Methodology self.now)) (heads (shows M.Methodology self.now)) }
@@ -55,7 +55,7 @@ impl<M: Methodology> Case<'_, M> {
 }
 
 impl<M: Methodology> Findings<'_, M> {
-    // The head at a place, with its finding.
+    /// The head at a place, with its finding.
     pub fn at(&self, k: usize) -> FoundHead<'_, M>
         requires { k < heads (seen_in self.now) }
         ensures case { result.head.case.now ≡ self.now.case.now }

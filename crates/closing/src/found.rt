@@ -1,4 +1,4 @@
-// What a closing has found.
+//! What a closing has found.
 ghost use Rattle.std.specs.Prelude.{◌≡◌, length};
 ghost use Rattle.methodology.specs.Limits.{head_limit};
 ghost use Rattle.accounts.specs.Sums.{Never};
@@ -12,7 +12,7 @@ use crate::head::CaseHead;
 use methodology::Methodology;
 use rates::HEADS;
 
-// A head with its finding.
+/// A head with its finding.
 #[derive(Drop)]
 pub struct FoundHead<'a, M: Methodology> {
     pub head: CaseHead<'a, M>,
@@ -20,7 +20,7 @@ pub struct FoundHead<'a, M: Methodology> {
     ghost found: { Found (shows M.Methodology head.case.now) head.k finding },
 }
 
-// A case with the findings of all its heads, head 1 first.
+/// A case with the findings of all its heads, head 1 first.
 #[derive(Drop)]
 pub struct Findings<'a, M: Methodology> {
     pub case: &'a Case<'a, M>,
@@ -29,7 +29,7 @@ pub struct Findings<'a, M: Methodology> {
     ghost found: { AllFound (shows M.Methodology case.now) heads },
 }
 
-// Findings by which no balance passes its limit.
+/// Findings by which no balance passes its limit.
 #[derive(Drop)]
 pub struct Accepted<'a, M: Methodology> {
     pub findings: Findings<'a, M>,

@@ -1,4 +1,4 @@
-// Closes a month: tests it head by head, and fills in the sheet and the books.
+//! Closes a month: tests it head by head, and fills in the sheet and the books.
 #![tactic(auto)]
 
 mod bills;

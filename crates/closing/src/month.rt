@@ -1,4 +1,4 @@
-// The closing of a month.
+//! The closing of a month.
 ghost use Rattle.accounts.specs.Rules.{rules_of};
 ghost use Rattle.settlement.specs.Closing.{case_of};
 ghost use Rattle.settlement.specs.Closed.{Answer, Closed};
@@ -14,7 +14,7 @@ use rates::{Rates, Revenues};
 use settlement::CloseFault;
 
 impl<M: Methodology> Accepted<'_, M> {
-    // Fills in the sheet. The books are those after the closing.
+    /// Fills in the sheet. The books are those after the closing.
     fn fill(&self, sheet: &mut Sheet) -> Books
         ensures { Closed (seen_in self.now.findings) sheet.new result }
     {
@@ -35,8 +35,8 @@ impl<M: Methodology> Accepted<'_, M> {
     }
 }
 
-// Closes the month with that number in the year, and fills in the sheet. The caller states how many readings and deliveries
-// the month must have. Where a test refuses, books and sheet stay as they are.
+/// Closes the month with that number in the year, and fills in the sheet. The caller states how many readings and deliveries
+/// the month must have. Where a test refuses, books and sheet stay as they are.
 pub fn close<M: Methodology>(
     m: &M,
     books: &mut Books,

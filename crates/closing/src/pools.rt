@@ -1,4 +1,4 @@
-// What a head has to hand on.
+//! What a head has to hand on.
 ghost use Rattle.std.specs.Prelude.{◌≡◌, ◌+◌, ◌<◌, ◌≤◌, slice_index};
 ghost use Rattle.methodology.specs.Limits.{revenue_limit};
 ghost use Rattle.rates.specs.Limits.{yearly_limit};
@@ -14,7 +14,7 @@ use metering::index_of;
 use methodology::Methodology;
 use rates::Revenues;
 
-// A head's share of the year, in cents; only a revenue has one.
+/// A head's share of the year, in cents; only a revenue has one.
 fn share_of(revenues: &Revenues, count: usize, number: u8, k: usize) -> u64
     requires { count ≤ revenue_limit }
     ensures value { result ≡ share_of count revenues.now.yearly number k }
@@ -24,7 +24,7 @@ fn share_of(revenues: &Revenues, count: usize, number: u8, k: usize) -> u64
 }
 
 impl<M: Methodology> CaseHead<'_, M> {
-    // The head's share of the year.
+    /// The head's share of the year.
     #[tactic(auto, unfolding(settlement::specs::Closing::share))]
     fn share(&self) -> u64
         ensures value { result ≡ at_head share self.now }
@@ -38,7 +38,7 @@ impl<M: Methodology> CaseHead<'_, M> {
         )
     }
 
-    // A head's pool, in grains: the month's dues, the share of the year and the carry.
+    /// A head's pool, in grains: the month's dues, the share of the year and the carry.
     pub fn pool(&self) -> u64
         ensures value { result ≡ at_head pool self.now }
         ensures most { result ≤ pool_limit }

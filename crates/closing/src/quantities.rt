@@ -1,4 +1,4 @@
-// What licensees took, and what comes of it.
+//! What licensees took, and what comes of it.
 ghost use Rattle.std.specs.Prelude.{◌≡◌, ◌/◌, ◌%◌, ◌<◌, ◌≤◌, pos, ◌-ℤ◌, ◌*ℤ◌, unsigned_abs};
 ghost use Rattle.methodology.specs.Limits.{head_limit};
 ghost use Rattle.accounts.specs.Limits.{month_energy_limit, carry_limit};
@@ -12,7 +12,7 @@ use accounts::Delivery;
 use arith::split;
 use methodology::Methodology;
 
-// What a licensee took under a head.
+/// What a licensee took under a head.
 fn taken_by(licensee: &Option<Delivery>, k: usize) -> u64
     requires { k < head_limit }
     ensures value { result ≡ taken licensee.now k }
@@ -22,7 +22,7 @@ fn taken_by(licensee: &Option<Delivery>, k: usize) -> u64
 }
 
 impl<M: Methodology> CaseHead<'_, M> {
-    // A head's quantity: what the licensees took, added up.
+    /// A head's quantity: what the licensees took, added up.
     #[tactic(auto, unfolding(settlement::specs::Closing::quantity))]
     pub fn quantity(&self) -> u64
         ensures value { result ≡ at_head quantity self.now }
@@ -37,7 +37,7 @@ impl<M: Methodology> CaseHead<'_, M> {
     }
 }
 
-// An amount over a quantity that is there, and what is left over.
+/// An amount over a quantity that is there, and what is left over.
 pub fn divided(amount: u64, quantity: u64) -> (u64, u64)
     requires { 0 < quantity }
     ensures rate { result.0 ≡ amount / quantity }
@@ -46,7 +46,7 @@ pub fn divided(amount: u64, quantity: u64) -> (u64, u64)
     split(amount, quantity).unwrap()
 }
 
-// A quantity times what the actual rate is over the published one.
+/// A quantity times what the actual rate is over the published one.
 pub fn difference_of(quantity: u64, actual: u64, published: u64) -> i128
     requires { quantity ≤ carry_limit }
     ensures value { result ≡ pos quantity *ℤ (pos actual -ℤ pos published) }

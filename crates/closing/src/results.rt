@@ -1,4 +1,4 @@
-// What is written of the findings: accounts, lines and the margin.
+//! What is written of the findings: accounts, lines and the margin.
 ghost use Rattle.std.specs.Prelude.{◌≡◌, ℕ, ◌<◌, ◌≤◌, slice_index_or};
 ghost use Rattle.methodology.specs.Limits.{head_limit};
 ghost use Rattle.accounts.specs.Sums.{sum_toℤ};
@@ -15,7 +15,7 @@ use rates::HEADS;
 use std::array;
 
 impl<M: Methodology> FoundHead<'_, M> {
-    // Its account after the closing.
+    /// Its account after the closing.
     fn account_after(&self) -> Account
         requires { at_head Past self.now.head → ⊥ }
         ensures { at_head AccountClosed self.now.head result }
@@ -30,7 +30,7 @@ impl<M: Methodology> FoundHead<'_, M> {
         }
     }
 
-    // Its line of the sheet.
+    /// Its line of the sheet.
     fn line(&self) -> HeadLine
         requires { at_head Past self.now.head → ⊥ }
         ensures { result ≡ at_head line_of self.now.head }
@@ -46,7 +46,7 @@ impl<M: Methodology> FoundHead<'_, M> {
 }
 
 impl<M: Methodology> Accepted<'_, M> {
-    // The accounts after the closing; those past the heads stay.
+    /// The accounts after the closing; those past the heads stay.
     pub fn accounts(&self) -> [Account; HEADS]
         ensures each { (k : ℕ) → k < heads (seen_in self.now.findings) → AccountClosed (seen_in self.now.findings) k (slice_index_or result k no_account) }
         ensures others { (k : ℕ) → heads (seen_in self.now.findings) ≤ k → k < head_limit → slice_index_or result k no_account ≡ old (seen_in self.now.findings) k }
@@ -61,7 +61,7 @@ impl<M: Methodology> Accepted<'_, M> {
         })
     }
 
-    // The heads' lines of the sheet.
+    /// The heads' lines of the sheet.
     pub fn lines(&self) -> [HeadLine; HEADS]
         ensures each { (k : ℕ) → k < heads (seen_in self.now.findings) → slice_index_or result k no_line ≡ line_of (seen_in self.now.findings) k }
         ensures blank { (k : ℕ) → heads (seen_in self.now.findings) ≤ k → k < head_limit → slice_index_or result k no_line ≡ no_line }
@@ -78,7 +78,7 @@ impl<M: Methodology> Accepted<'_, M> {
 }
 
 impl<M: Methodology> Findings<'_, M> {
-    // The margins, added up. Together they are no larger than what the month has taken in, with the carries.
+    /// The margins, added up. Together they are no larger than what the month has taken in, with the carries.
     pub fn margin(&self) -> i64
         ensures { result ≡ sum_toℤ (margin (seen_in self.now)) (heads (seen_in self.now)) }
     {

@@ -1,4 +1,4 @@
-// What a head spreads over its quantity.
+//! What a head spreads over its quantity.
 ghost use Rattle.std.specs.Prelude.{◌≡◌, ◌+◌, ◌*◌, ◌≤◌, pos, ◌-ℤ◌, ◌*ℤ◌};
 ghost use Rattle.settlement.specs.Closing.{sent, unit, rest, supply, spread, margin, Empty, Unsupplied};
 ghost use Rattle.closing.specs.Findings.{Modest};
@@ -8,7 +8,7 @@ use crate::head::CaseHead;
 use crate::quantities::divided;
 use methodology::Methodology;
 
-// What a head spreads, and its margin, in grains.
+/// What a head spreads, and its margin, in grains.
 #[derive(Clone, Copy)]
 pub struct Spread {
     pub amount: u64,
@@ -16,7 +16,7 @@ pub struct Spread {
 }
 
 impl<M: Methodology> CaseHead<'_, M> {
-    // The supply of an interval that its price may cover, kWh.
+    /// The supply of an interval that its price may cover, kWh.
     fn supply(&self) -> u64
         requires { at_head Supplied self.now }
         ensures value { result ≡ at_head supply self.now }
@@ -27,7 +27,7 @@ impl<M: Methodology> CaseHead<'_, M> {
             .allowed_supply(self.sent(), self.quantity(), self.rates().factor)
     }
 
-    // What an interval spreads, and its margin: its unit cost for the energy sent in that is not allowed supply.
+    /// What an interval spreads, and its margin: its unit cost for the energy sent in that is not allowed supply.
     fn interval_spread(&self) -> Spread
         requires { at_head Supplied self.now }
         ensures value { result.amount ≡ at_head unit self.now * at_head supply self.now + at_head rest self.now }
@@ -44,7 +44,7 @@ impl<M: Methodology> CaseHead<'_, M> {
         }
     }
 
-    // What a head spreads, and its margin; one that is billed by demand spreads its whole pool.
+    /// What a head spreads, and its margin; one that is billed by demand spreads its whole pool.
     pub fn spread(&self) -> Spread
         requires some { at_head Empty self.now → ⊥ }
         requires supplied { at_head Unsupplied self.now → ⊥ }

@@ -1,4 +1,4 @@
-// The text in which people write the figures of a reading.
+//! The text in which people write the figures of a reading.
 #![tactic(auto)]
 
 mod draft;

@@ -1,4 +1,4 @@
-// The calls of the quarter, those that are refused among them.
+//! The calls of the quarter, those that are refused among them.
 use crate::market::{filing, sent, taken};
 use history::{Call, Named, Spending};
 use worked_figures::year;
@@ -11,8 +11,8 @@ fn hold(which: Named) -> Call {
     Call::Present(Spending::Hold, which)
 }
 
-// Adds the calls with which the year begins. A tariff comes too early, one has a rate over its limit, and a reading
-// comes before a month is open.
+/// Adds the calls with which the year begins. A tariff comes too early, one has a rate over its limit, and a reading
+/// comes before a month is open.
 fn begin(calls: &mut Vec<Call>) -> anyhow::Result<()> {
     let reading = sent(1, 100, [20, 30, 20])?;
     calls.push(Call::Tariff(filing(486)))?;
@@ -23,8 +23,8 @@ fn begin(calls: &mut Vec<Call>) -> anyhow::Result<()> {
     Ok(())
 }
 
-// Adds the first month's calls: a place that is read twice, one that is not there, a licensee that delivers twice, a
-// wrong count, and an order that is paid and then no longer in hand.
+/// Adds the first month's calls: a place that is read twice, one that is not there, a licensee that delivers twice, a
+/// wrong count, and an order that is paid and then no longer in hand.
 fn first(calls: &mut Vec<Call>) -> anyhow::Result<()> {
     calls.push(Call::Meter(sent(1, 100, [20, 30, 20])?))?;
     calls.push(Call::Meter(sent(1, 100, [20, 30, 20])?))?;
@@ -41,8 +41,8 @@ fn first(calls: &mut Vec<Call>) -> anyhow::Result<()> {
     Ok(())
 }
 
-// Adds the second month's calls: more than the contracted kW, an order that is put back, and two orders of another
-// house, of which one comes back and one is not there.
+/// Adds the second month's calls: more than the contracted kW, an order that is put back, and two orders of another
+/// house, of which one comes back and one is not there.
 fn second(calls: &mut Vec<Call>) -> anyhow::Result<()> {
     calls.push(Call::Meter(sent(1, 101, [10, 40, 20])?))?;
     calls.push(Call::Meter(sent(1, 80, [10, 40, 20])?))?;
@@ -56,8 +56,8 @@ fn second(calls: &mut Vec<Call>) -> anyhow::Result<()> {
     Ok(())
 }
 
-// Adds the third month's calls: nobody takes energy in the evening until licensee 2 delivers, and one of two orders is
-// left in hand.
+/// Adds the third month's calls: nobody takes energy in the evening until licensee 2 delivers, and one of two orders is
+/// left in hand.
 fn third(calls: &mut Vec<Call>) -> anyhow::Result<()> {
     calls.push(Call::Deliver(taken(1, 90, [25, 30, 0])?))?;
     calls.push(Call::Meter(sent(2, 45, [10, 15, 7])?))?;
@@ -74,7 +74,7 @@ fn third(calls: &mut Vec<Call>) -> anyhow::Result<()> {
     Ok(())
 }
 
-// Adds the whole quarter's calls.
+/// Adds the whole quarter's calls.
 pub fn quarter(calls: &mut Vec<Call>) -> anyhow::Result<()> {
     begin(calls)?;
     first(calls)?;
@@ -82,7 +82,7 @@ pub fn quarter(calls: &mut Vec<Call>) -> anyhow::Result<()> {
     third(calls)
 }
 
-// The calls after which one order is in hand.
+/// The calls after which one order is in hand.
 pub fn up_to_an_order(calls: &mut Vec<Call>) -> anyhow::Result<()> {
     calls.push(Call::Year(year()))?;
     calls.push(Call::Tariff(filing(486)))?;

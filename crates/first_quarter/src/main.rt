@@ -1,4 +1,4 @@
-// The first quarter of a market with two stations and two licensees, performed as one list of calls and printed.
+//! The first quarter of a market with two stations and two licensees, performed as one list of calls and printed.
 #![tactic(auto)]
 
 mod calls;
@@ -16,17 +16,17 @@ use printout::Printer;
 use std::alloc::Global;
 use worked_figures::agreement;
 
-// The numbers that the pay orders of the two houses bear.
+/// The numbers that the pay orders of the two houses bear.
 const SERIAL: u64 = 1;
 
 const OTHER_SERIAL: u64 = 2;
 
 type Quarter = House<Stations, ThreeIntervals>;
 
-// Another house, with an order that it drew in hand.
+/// Another house, with an order that it drew in hand.
 type Other = Performance<One<TwoPart>, ThreeIntervals>;
 
-// Prints what stands at each place, grains.
+/// Prints what stands at each place, grains.
 fn print_places(rt: &HostRuntime, house: &Quarter, places: u8) -> anyhow::Result<()> {
     for place in 1..=places {
         let standing = house.ledger().till.money(place).standing;
@@ -35,8 +35,8 @@ fn print_places(rt: &HostRuntime, house: &Quarter, places: u8) -> anyhow::Result
     Ok(())
 }
 
-// Performs the quarter's calls, which present an order that another house has in hand. What is in hand at the end, at
-// either house, is held there.
+/// Performs the quarter's calls, which present an order that another house has in hand. What is in hand at the end, at
+/// either house, is held there.
 fn perform_quarter(
     heap: Global,
     bank: Stations,

@@ -1,4 +1,4 @@
-// What a call answered, in plain numbers.
+//! What a call answered, in plain numbers.
 ghost use Rattle.std.specs.Prelude.{◌≡◌, option_map};
 ghost use Rattle.history.specs.Answers.{refusal_of, sheet_of};
 
@@ -7,25 +7,25 @@ use ledger::Refusal;
 
 #[derive(Clone, Copy)]
 pub enum Answer {
-    // A year, a tariff, a delivery or a hold was accepted.
+    /// A year, a tariff, a delivery or a hold was accepted.
     Accepted,
-    // A station's reading was accepted: its dues, grains.
+    /// A station's reading was accepted: its dues, grains.
     Metered(u64),
-    // The month was closed: its sheet.
+    /// The month was closed: its sheet.
     Closed(Sheet),
-    // An order was drawn: its place and its cents. Plain numbers, as all here, and no `Paid`, which is of an order that was.
+    /// An order was drawn: its place and its cents. Plain numbers, as all here, and no `Paid`, which is of an order that was.
     Drawn(u8, u64),
-    // An order was released: its place and its cents.
+    /// An order was released: its place and its cents.
     Paid(u8, u64),
     Refused(Refusal),
-    // The order was not the house's own, and came back.
+    /// The order was not the house's own, and came back.
     Returned,
-    // The order named was not there, and no call was made.
+    /// The order named was not there, and no call was made.
     Absent,
 }
 
 impl Answer {
-    // Why the call was refused, if it was.
+    /// Why the call was refused, if it was.
     pub fn refusal(&self) -> Option<Refusal>
         ensures { result ≡ refusal_of self.now }
     {
@@ -35,7 +35,7 @@ impl Answer {
         }
     }
 
-    // The sheet on which the month was closed, if one was.
+    /// The sheet on which the month was closed, if one was.
     pub fn sheet(&self) -> Option<&Sheet>
         ensures { option_map (λ s. s.now) result ≡ sheet_of self.now }
     {

@@ -1,26 +1,26 @@
-// A call to make of a house.
+//! A call to make of a house.
 ghost use Rattle.std.specs.Prelude.{◌≡◌};
 
 use metering::Reading;
 use tariffs::{Filing, Row};
 
-// An order that is to be presented.
+/// An order that is to be presented.
 #[derive(Clone, Copy)]
 pub enum Named {
-    // The one that the draw with this number made, of the draws that were accepted, counted from 1.
+    /// The one that the draw with this number made, of the draws that were accepted, counted from 1.
     Drawn(usize),
-    // The one with this number among the orders of other houses.
+    /// The one with this number among the orders of other houses.
     Other(usize),
 }
 
-// What an order is presented for.
+/// What an order is presented for.
 #[derive(Clone, Copy)]
 pub enum Spending {
     Release,
     Hold,
 }
 
-// How many readings and deliveries a month must have.
+/// How many readings and deliveries a month must have.
 #[derive(Clone, Copy)]
 pub struct Stated {
     pub readings: usize,
@@ -39,7 +39,7 @@ pub enum Call {
 }
 
 impl Call {
-    // Closing a month that must have so many readings and deliveries.
+    /// Closing a month that must have so many readings and deliveries.
     pub fn closing(readings: usize, deliveries: usize) -> Call
         ensures { result ≡ Call.Close (record { readings = readings; deliveries = deliveries }) }
     {

@@ -1,4 +1,4 @@
-// Histories: lists of calls performed one after another, and the law that holds after each.
+//! Histories: lists of calls performed one after another, and the law that holds after each.
 #![tactic(auto)]
 
 pub mod answer;

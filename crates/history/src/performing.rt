@@ -1,4 +1,4 @@
-// What performing a list of calls gives back.
+//! What performing a list of calls gives back.
 ghost use Rattle.std.specs.Prelude.{◌≡◌, ℕ, ◌≤◌, true};
 ghost use Rattle.orders.specs.Tills.{ordered_at};
 ghost use Rattle.ledger.specs.Accepted.{in_hand};
@@ -13,20 +13,20 @@ use std::alloc::AllocError;
 
 pub mod perform;
 
-// The house, an answer for each call in the order of the list, and the orders that are still in hand, each under the number of its draw.
+/// The house, an answer for each call in the order of the list, and the orders that are still in hand, each under the number of its draw.
 pub struct Performance<B, M> {
     pub house: House<B, M>,
     pub answers: Vec<Answer>,
     pub hand: Orders,
-    // The orders are the house's own, and all that it has money on orders for.
+    /// The orders are the house's own, and all that it has money on orders for.
     ghost own: { all_bear house.ledger.till.serial (in_slots (slots_of hand)) ≡ true },
     ghost covered: { (p : ℕ) → 1 ≤ p → ordered_at house.ledger.till p ≡ in_hand p (in_slots (slots_of hand)) },
 }
 
-// Why a list is not performed; then no call was made.
+/// Why a list is not performed; then no call was made.
 #[derive(Clone, Copy, Debug)]
 pub enum Unperformed {
-    // One of the other houses' orders bears the serial that the new house was to bear.
+    /// One of the other houses' orders bears the serial that the new house was to bear.
     SerialTaken,
     NoMemory,
 }

@@ -1,4 +1,4 @@
-// Presenting orders.
+//! Presenting orders.
 ghost use Rattle.std.specs.Prelude.{◌≡◌};
 ghost use Rattle.house.specs.Shown.{shows};
 ghost use Rattle.history.specs.Slots.{slots_of, room_in};
@@ -14,7 +14,7 @@ use methodology::Methodology;
 use orders::{PayOrder, Returned};
 
 impl Spending {
-    // Has the house take an order in, or gives it back.
+    /// Has the house take an order in, or gives it back.
     fn spend<B: Bank, M: Methodology>(
         self,
         house: &mut House<B, M>,
@@ -34,7 +34,7 @@ impl Spending {
         }
     }
 
-    // Presents the order of a slot; one that is not the house's own is put back there.
+    /// Presents the order of a slot; one that is not the house's own is put back there.
     fn present_at<B: Bank, M: Methodology>(
         self,
         house: &mut House<B, M>,
@@ -54,7 +54,7 @@ impl Spending {
         }
     }
 
-    // Presents the order with a number; one that is not the house's own stays where it was.
+    /// Presents the order with a number; one that is not the house's own stays where it was.
     pub fn present<B: Bank, M: Methodology>(
         self,
         house: &mut House<B, M>,

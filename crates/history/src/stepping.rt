@@ -1,4 +1,4 @@
-// One call of a list.
+//! One call of a list.
 ghost use Rattle.std.specs.Prelude.{◌≡◌, ◌<◌, length};
 ghost use Rattle.ledger.specs.Views.{till_of};
 ghost use Rattle.house.specs.Shown.{shows};
@@ -17,7 +17,7 @@ use ledger::Refusal;
 use metering::Reading;
 use methodology::Methodology;
 
-// The answer of a call that says no more than whether it was accepted.
+/// The answer of a call that says no more than whether it was accepted.
 impl From<Result<(), Refusal>> for Answer {
     ghost from_gives = { λ r a. a ≡ told r };
 
@@ -29,7 +29,7 @@ impl From<Result<(), Refusal>> for Answer {
     }
 }
 
-// Meters, and tells the dues: what the place's standing money gained.
+/// Meters, and tells the dues: what the place's standing money gained.
 fn meter<B: Bank, M: Methodology>(house: &mut House<B, M>, reading: &Reading) -> Answer
     ensures { Meters (shows B.Bank M.Methodology house.old) reading.now result (shows B.Bank M.Methodology house.new) }
 {
@@ -40,7 +40,7 @@ fn meter<B: Bank, M: Methodology>(house: &mut House<B, M>, reading: &Reading) ->
     }
 }
 
-// Closes the month on a sheet of its own.
+/// Closes the month on a sheet of its own.
 fn close<B: Bank, M: Methodology>(house: &mut House<B, M>, stated: Stated) -> Answer
     ensures { Closes (shows B.Bank M.Methodology house.old) stated result (shows B.Bank M.Methodology house.new) }
 {
@@ -51,15 +51,15 @@ fn close<B: Bank, M: Methodology>(house: &mut House<B, M>, stated: Stated) -> An
     }
 }
 
-// A house at work on a list of calls, with the orders that it has in hand. Those of other houses are passed beside it, since
-// a struct cannot keep a fact about what it only borrows to change.
+/// A house at work on a list of calls, with the orders that it has in hand. Those of other houses are passed beside it, since
+/// a struct cannot keep a fact about what it only borrows to change.
 pub(crate) struct Desk<B, M> {
     pub(crate) house: House<B, M>,
     pub(crate) hand: Orders,
 }
 
 impl<B: Bank, M: Methodology> Desk<B, M> {
-    // Draws, and keeps the order in hand under the next number.
+    /// Draws, and keeps the order in hand under the next number.
     fn draw(&mut self, place: u8) -> Answer
         requires { length (slots_of self.old.hand) < room_in self.old.hand }
         ensures drawn { Draws (shows B.Bank M.Methodology self.old.house) place (slots_of self.old.hand) result (slots_of self.new.hand) (shows B.Bank M.Methodology self.new.house) }
@@ -75,7 +75,7 @@ impl<B: Bank, M: Methodology> Desk<B, M> {
         }
     }
 
-    // Presents the order that is named.
+    /// Presents the order that is named.
     fn present(&mut self, others: &mut Orders, how: Spending, which: Named) -> Answer
         requires { Foreign (till_of (shows B.Bank M.Methodology self.old.house)).serial (slots_of others.old) }
         ensures { Stepped (Call.Present how which) result (shows B.Bank M.Methodology self.old.house) self.old.hand others.old (shows B.Bank M.Methodology self.new.house) self.new.hand others.new }
@@ -86,7 +86,7 @@ impl<B: Bank, M: Methodology> Desk<B, M> {
         }
     }
 
-    // Makes one call. Where the order that it names is not there, there is no call to make.
+    /// Makes one call. Where the order that it names is not there, there is no call to make.
     pub(crate) fn step(&mut self, others: &mut Orders, call: &Call) -> Answer
         requires room { length (slots_of self.old.hand) < room_in self.old.hand }
         requires foreign { Foreign (till_of (shows B.Bank M.Methodology self.old.house)).serial (slots_of others.old) }

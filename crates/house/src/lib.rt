@@ -1,4 +1,4 @@
-// The settlement house: a bank, a methodology and a ledger under eight calls.
+//! The settlement house: a bank, a methodology and a ledger under eight calls.
 #![tactic(auto)]
 
 pub mod made;

@@ -1,4 +1,4 @@
-// A house newly made, and what may be seen of it.
+//! A house newly made, and what may be seen of it.
 ghost use Rattle.std.specs.Prelude.{◌≡◌};
 ghost use Rattle.ledger.specs.Calls.{NewHouse};
 ghost use Rattle.ledger.specs.Law.{EveryRun};
@@ -13,8 +13,8 @@ use orders::Till;
 use rates::{Rates, Revenues};
 
 impl<B: Bank, M: Methodology> House<B, M> {
-    // A house over a bank and a methodology. Its serial number should be one that no other house bears.
-    // It stands before a year, with amounts 0, and the bank's standings are as they were.
+    /// A house over a bank and a methodology. Its serial number should be one that no other house bears.
+    /// It stands before a year, with amounts 0, and the bank's standings are as they were.
     pub fn new(bank: B, methodology: M, serial: u64) -> House<B, M>
         ensures made { NewHouse serial (shows B.Bank M.Methodology result) }
         ensures over { Over M.Methodology.shape (M.Methodology.meaning methodology) (B.Bank.row bank) (shows B.Bank M.Methodology result) }
@@ -35,7 +35,7 @@ impl<B: Bank, M: Methodology> House<B, M> {
         }
     }
 
-    // All that the house keeps in plain numbers.
+    /// All that the house keeps in plain numbers.
     pub fn ledger(&self) -> &Ledger
         ensures { result.now ≡ self.now.ledger }
     {

@@ -1,4 +1,4 @@
-// Closing the open month.
+//! Closing the open month.
 ghost use Rattle.std.specs.Prelude.{◌≡◌};
 ghost use Rattle.ledger.specs.Calls.{Close};
 ghost use Rattle.ledger.specs.Views.{after_month};
@@ -12,10 +12,10 @@ use closing::close;
 use ledger::{Half, Refusal, Stage};
 use methodology::Methodology;
 
-// The last month of the first half-year.
+/// The last month of the first half-year.
 const HALF_YEAR: u8 = 6;
 
-// Where a house stands once a month is closed.
+/// Where a house stands once a month is closed.
 fn after_month(number: u8) -> Stage
     ensures { result ≡ after_month number }
 {
@@ -29,8 +29,8 @@ fn after_month(number: u8) -> Stage
 }
 
 impl<B: Bank, M: Methodology> House<B, M> {
-    // Closes the month and fills in the caller's sheet, as is the rule here; a refusal leaves it. The caller states how many
-    // readings and deliveries the month must have: two figures, since a struct of them would serve this call alone.
+    /// Closes the month and fills in the caller's sheet, as is the rule here; a refusal leaves it. The caller states how many
+    /// readings and deliveries the month must have: two figures, since a struct of them would serve this call alone.
     pub fn close(
         &mut self,
         readings: usize,

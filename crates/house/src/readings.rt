@@ -1,4 +1,4 @@
-// Taking readings in: what stations sent and what licensees took.
+//! Taking readings in: what stations sent and what licensees took.
 ghost use Rattle.std.specs.Prelude.{◌≡◌, ◌+◌, true, not, IfOk};
 ghost use Rattle.banks.specs.Rows.{at_place};
 ghost use Rattle.ledger.specs.Calls.{Meter, meter_verdict, Metered, Deliver};
@@ -14,7 +14,7 @@ use metering::{Kind, Reading};
 use methodology::Methodology;
 
 impl<B: Bank, M: Methodology> House<B, M> {
-    // What the reading's station is due, if meter accepts it.
+    /// What the reading's station is due, if meter accepts it.
     fn dues(&self, reading: &Reading) -> Result<Dues, Refusal>
         ensures said { said result ≡ meter_verdict (shows B.Bank M.Methodology self.now) reading.now }
         ensures due { IfOk result (λ d. d ≡ dues_at (at_place (B.Bank.row self.now.bank) reading.now.number) reading.now) }
@@ -46,7 +46,7 @@ impl<B: Bank, M: Methodology> House<B, M> {
         Ok(dues)
     }
 
-    // Takes a station's reading: asks the bank, books it, and adds the dues to the place's standing money.
+    /// Takes a station's reading: asks the bank, books it, and adds the dues to the place's standing money.
     pub fn meter(&mut self, reading: &Reading) -> Result<(), Refusal>
         ensures { Meter (shows B.Bank M.Methodology self.old) reading.now result (shows B.Bank M.Methodology self.new) }
     {
@@ -63,7 +63,7 @@ impl<B: Bank, M: Methodology> House<B, M> {
         Ok(())
     }
 
-    // Takes a licensee's reading.
+    /// Takes a licensee's reading.
     pub fn deliver(&mut self, reading: &Reading) -> Result<(), Refusal>
         ensures { Deliver (shows B.Bank M.Methodology self.old) reading.now result (shows B.Bank M.Methodology self.new) }
     {

@@ -1,4 +1,4 @@
-// Filing a year, and publishing a tariff.
+//! Filing a year, and publishing a tariff.
 ghost use Rattle.std.specs.Prelude.{◌≡◌};
 ghost use Rattle.ledger.specs.Calls.{Year, Tariff};
 ghost use Rattle.ledger.specs.Views.{first_month};
@@ -10,7 +10,7 @@ use ledger::{Half, Refusal, Stage};
 use methodology::Methodology;
 use tariffs::{Filing, Row, file_year, publish};
 
-// The month that a tariff opens.
+/// The month that a tariff opens.
 fn first_month(half: Half) -> Stage
     ensures { result ≡ first_month half }
 {
@@ -21,7 +21,7 @@ fn first_month(half: Half) -> Stage
 }
 
 impl<B: Bank, M: Methodology> House<B, M> {
-    // Files the allowed revenues of a year, in cents.
+    /// Files the allowed revenues of a year, in cents.
     pub fn year(&mut self, filed: &Row) -> Result<(), Refusal>
         ensures { Year (shows B.Bank M.Methodology self.old) filed.now result (shows B.Bank M.Methodology self.new) }
     {
@@ -34,7 +34,7 @@ impl<B: Bank, M: Methodology> House<B, M> {
         Ok(())
     }
 
-    // Publishes a tariff, and opens the first month of its half-year.
+    /// Publishes a tariff, and opens the first month of its half-year.
     pub fn tariff(&mut self, filing: &Filing) -> Result<(), Refusal>
         ensures { Tariff (shows B.Bank M.Methodology self.old) filing.now result (shows B.Bank M.Methodology self.new) }
     {

@@ -1,4 +1,4 @@
-// Months that cannot be closed, and how each is mended.
+//! Months that cannot be closed, and how each is mended.
 ghost use Rattle.std.specs.Prelude.{◌<◌, ◌≤◌};
 ghost use Rattle.agreements.specs.Limits.{energy_price_limit};
 
@@ -17,24 +17,24 @@ use std::process::Abort;
 use std::test::Fail;
 use tariffs::{Filing, Row};
 
-// The most that a meter may show, kW, and its price, grains per kW.
+/// The most that a meter may show, kW, and its price, grains per kW.
 const DEMAND: u32 = 2_000_000;
 
 const CAPACITY_PRICE: u64 = 50_000_000_000;
 
 const ENERGY_PRICE: u64 = 100_000_000;
 
-// The highest balance, in size.
+/// The highest balance, in size.
 const BALANCE: i64 = 4_000_000_000_000_000_000;
 
-// An agreement whose capacity due may be 10^17 grains.
+/// An agreement whose capacity due may be 10^17 grains.
 fn dear(energy_price: u64) -> TwoPart
     requires { energy_price ≤ energy_price_limit }
 {
     TwoPart::new(2_000_000, CAPACITY_PRICE, energy_price).unwrap()
 }
 
-// Two more stations send in the kWh that are missing.
+/// Two more stations send in the kWh that are missing.
 #[test]
 fn no_more_is_delivered_than_was_sent(rt: HostRuntime) -> Result<(), Fail> {
     let delivery = reading(Kind::Licensee, 90, [18, 31, 22]);
@@ -57,7 +57,7 @@ fn no_more_is_delivered_than_was_sent(rt: HostRuntime) -> Result<(), Fail> {
     Ok(())
 }
 
-// 30 kWh were sent in at E1, and 14 delivered; a second licensee takes the kWh that makes them 15.
+/// 30 kWh were sent in at E1, and 14 delivered; a second licensee takes the kWh that makes them 15.
 #[test]
 fn twice_what_was_delivered_may_be_sent(rt: HostRuntime) -> Result<(), Fail> {
     let first = reading(Kind::Licensee, 90, [18, 14, 19]);
@@ -75,7 +75,7 @@ fn twice_what_was_delivered_may_be_sent(rt: HostRuntime) -> Result<(), Fail> {
     Ok(())
 }
 
-// The actual rate of a head, on the sheet of the closing with this place in the list.
+/// The actual rate of a head, on the sheet of the closing with this place in the list.
 fn check_actual(
     rt: &impl Abort,
     answers: &[Answer],
@@ -90,7 +90,7 @@ fn check_actual(
     Ok(())
 }
 
-// 10^17 grains over a demand of 1 kW, then of 1,999,999 kW, and at last of 2,000,000 kW: 5 * 10^10 is the limit.
+/// 10^17 grains over a demand of 1 kW, then of 1,999,999 kW, and at last of 2,000,000 kW: 5 * 10^10 is the limit.
 #[test]
 fn a_demand_rate_keeps_its_limit(rt: HostRuntime) -> Result<(), Fail> {
     let station = reading(Kind::Generator, DEMAND, [20, 30, 20]);
@@ -118,7 +118,7 @@ fn a_demand_rate_keeps_its_limit(rt: HostRuntime) -> Result<(), Fail> {
     check_actual(&rt, &answers, 8, 0, CAPACITY_PRICE)
 }
 
-// A kWh is due 10^8 grains, the limit. Of those sent in all must be delivered.
+/// A kWh is due 10^8 grains, the limit. Of those sent in all must be delivered.
 #[test]
 fn an_energy_rate_keeps_its_limit(rt: HostRuntime) -> Result<(), Fail> {
     let station = reading(Kind::Generator, 100, [20, 30, 20]);
@@ -141,7 +141,7 @@ fn an_energy_rate_keeps_its_limit(rt: HostRuntime) -> Result<(), Fail> {
     check_actual(&rt, &answers, 6, 4, ENERGY_PRICE)
 }
 
-// A first station that is paid for energy alone, and eight that are paid 10^17 grains for capacity alone.
+/// A first station that is paid for energy alone, and eight that are paid 10^17 grains for capacity alone.
 fn nine_stations(heap: Global) -> Option<Listed<TwoPart>> {
     let mut bank = Listed::new(heap);
     let energy = TwoPart::new(100, 0, 50_000).unwrap();
@@ -152,7 +152,7 @@ fn nine_stations(heap: Global) -> Option<Listed<TwoPart>> {
     Some(bank)
 }
 
-// A month in which the first station sends, and eight licensees show the most that a meter may.
+/// A month in which the first station sends, and eight licensees show the most that a meter may.
 fn greatest_demand(calls: &mut Vec<Call>) -> Result<(), AllocError> {
     calls.push(Call::Meter(sent()))?;
     calls.push(Call::Deliver(reading(Kind::Licensee, DEMAND, [18, 28, 19])))?;
@@ -163,7 +163,7 @@ fn greatest_demand(calls: &mut Vec<Call>) -> Result<(), AllocError> {
     Ok(())
 }
 
-// Six months of it, in the last of which the other stations are read once it cannot be closed.
+/// Six months of it, in the last of which the other stations are read once it cannot be closed.
 fn six_months(calls: &mut Vec<Call>) -> Result<(), AllocError> {
     calls.push(year())?;
     calls.push(Call::Tariff(Filing {
@@ -181,7 +181,7 @@ fn six_months(calls: &mut Vec<Call>) -> Result<(), AllocError> {
     Ok(())
 }
 
-// What the fifth month and the sixth come to.
+/// What the fifth month and the sixth come to.
 fn check_months(rt: &impl Abort, answers: &[Answer]) -> Result<(), Fail> {
     let fifth = sheet_at(answers, 51).ok_or("month 5 is not closed")?;
     assert_eq!(rt; fifth.heads[0].balance, -BALANCE);
@@ -195,9 +195,9 @@ fn check_months(rt: &impl Abort, answers: &[Answer]) -> Result<(), Fail> {
     Ok(())
 }
 
-// G is published at 10,000 * 10^14 / 20,000,000 = 5 * 10^10, its limit. Eight licensees at 2,000,000 kW pay 8 * 10^17 a
-// month, for which no station has earned anything: after five months the balance is at its limit. In the sixth the
-// stations earn as much as is paid, once they are read.
+/// G is published at 10,000 * 10^14 / 20,000,000 = 5 * 10^10, its limit. Eight licensees at 2,000,000 kW pay 8 * 10^17 a
+/// month, for which no station has earned anything: after five months the balance is at its limit. In the sixth the
+/// stations earn as much as is paid, once they are read.
 #[test]
 fn a_balance_keeps_its_limit(rt: HostRuntime) -> Result<(), Fail> {
     let heap = rt.alloc();

@@ -1,4 +1,4 @@
-// Tariffs that are turned down for a figure that is out of its range, or for a rate that is.
+//! Tariffs that are turned down for a figure that is out of its range, or for a rate that is.
 use crate::market::{checked_answers, filing, tariff, year};
 use crate::told::Told;
 use history::Call;
@@ -7,14 +7,14 @@ use std::alloc::AllocError;
 use std::test::Fail;
 use tariffs::{Filing, Row};
 
-// Most that may be filed.
+/// Most that may be filed.
 const COST: u64 = 100_000_000_000_000;
 
 const SENT: u64 = 100_000_000_000;
 
 const DELIVERED: u64 = 48_000_000_000;
 
-// Filings with one count that does not fit the heads.
+/// Filings with one count that does not fit the heads.
 fn miscounted() -> [Filing; 5] {
     let filing = filing();
     [
@@ -41,7 +41,7 @@ fn miscounted() -> [Filing; 5] {
     ]
 }
 
-// Filings with one figure that is out of its range.
+/// Filings with one figure that is out of its range.
 fn misfigured() -> [Filing; 11] {
     let filing = filing();
     [
@@ -86,7 +86,7 @@ fn misfigured() -> [Filing; 11] {
     ]
 }
 
-// Every figure at its limit. GE is 10,000 * 10^14 / 10^11 = 10^7, and the intervals' rates are 2 * 4 * 10^7.
+/// Every figure at its limit. GE is 10,000 * 10^14 / 10^11 = 10^7, and the intervals' rates are 2 * 4 * 10^7.
 fn greatest() -> Filing {
     Filing {
         costs: Row::of(&[COST, COST, COST]),
@@ -100,7 +100,7 @@ fn greatest() -> Filing {
     }
 }
 
-// Adds the filings to a list, each as one that does not fit.
+/// Adds the filings to a list, each as one that does not fit.
 fn misfiled(list: &mut Vec<(Call, Told)>, filings: &[Filing]) -> Result<(), AllocError> {
     for filing in filings {
         list.push((Call::Tariff(*filing), Told::Refused(Refusal::Misfiled)))?;
@@ -120,8 +120,8 @@ fn counts_fit_the_heads_and_figures_keep_their_ranges(rt: HostRuntime) -> Result
     Ok(())
 }
 
-// Filings with a rate that is out of its range, and the first such head. Where GE is 10,000 * 10,000 / 1 = 10^8, it is at
-// its limit, and so is a cost of 5,000,000 cents over a peak of 1.
+/// Filings with a rate that is out of its range, and the first such head. Where GE is 10,000 * 10,000 / 1 = 10^8, it is at
+/// its limit, and so is a cost of 5,000,000 cents over a peak of 1.
 fn misrated() -> [(Filing, usize); 8] {
     let filing = Filing {
         peaks: 1,
@@ -208,7 +208,7 @@ fn the_first_head_whose_rate_is_out_of_range_is_named(rt: HostRuntime) -> Result
     Ok(())
 }
 
-// A half is taken of what twice the limit would be, and the middle value is not tested.
+/// A half is taken of what twice the limit would be, and the middle value is not tested.
 #[test]
 fn a_rate_at_its_limit_is_published(rt: HostRuntime) -> Result<(), Fail> {
     let greatest = Filing {

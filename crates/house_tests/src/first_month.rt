@@ -1,4 +1,4 @@
-// The first month: metered, delivered, closed and paid.
+//! The first month: metered, delivered, closed and paid.
 use crate::market::{checked_answers, sent, sheet_at, taken, tariff, year};
 use crate::told::Told;
 use accounts::Sheet;
@@ -6,7 +6,7 @@ use history::{Call, Named, Spending};
 use std::process::Abort;
 use std::test::Fail;
 
-// What the sheet says of E2, and what licensee 1 is billed.
+/// What the sheet says of E2, and what licensee 1 is billed.
 fn check_sheet(rt: &impl Abort, sheet: &Sheet) -> Result<(), Fail> {
     assert_eq!(rt; (sheet.month, sheet.margin), (1, 0));
     let second = sheet.heads[4];

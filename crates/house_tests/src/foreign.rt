@@ -1,4 +1,4 @@
-// An order of another house: it comes back, stays where it was, and is held by the house that drew it.
+//! An order of another house: it comes back, stays where it was, and is held by the house that drew it.
 ghost use Rattle.std.specs.Prelude.{◌≡◌};
 
 use crate::market::{SERIAL, agreement, calls_in, check_told, filing, sent, tariff, year};
@@ -13,20 +13,20 @@ use orders::PayOrder;
 use std::alloc::Global;
 use std::test::Fail;
 
-// The number that the other house's orders bear.
+/// The number that the other house's orders bear.
 const OTHER: u64 = 8;
 
-// `worked_cases` has this market too, above crates that these tests have no use for: taking it from there is no plainer.
+/// `worked_cases` has this market too, above crates that these tests have no use for: taking it from there is no plainer.
 type Market = House<One<TwoPart>, ThreeIntervals>;
 
-// The other house takes its first reading, for which 5,500,000 grains are due.
+/// The other house takes its first reading, for which 5,500,000 grains are due.
 fn metered(house: &mut Market) -> Result<(), Refusal> {
     house.year(&worked_figures::year())?;
     house.tariff(&filing())?;
     house.meter(&sent())
 }
 
-// What is answered to the calls with the order beside them, as the first of the other houses' orders; and the order again.
+/// What is answered to the calls with the order beside them, as the first of the other houses' orders; and the order again.
 fn answers_beside(
     heap: Global,
     order: PayOrder,

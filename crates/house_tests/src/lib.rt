@@ -1,4 +1,4 @@
-// Examples for the house: lists of calls that are performed, and what is answered to each.
+//! Examples for the house: lists of calls that are performed, and what is answered to each.
 #![tactic(auto)]
 
 #[cfg(test)]

@@ -1,4 +1,4 @@
-// A market with one station and one licensee, and the calls that are made of its house.
+//! A market with one station and one licensee, and the calls that are made of its house.
 use crate::told::Told;
 use accounts::Sheet;
 use banks::{Bank, One};
@@ -11,11 +11,11 @@ use std::process::Abort;
 use std::test::Fail;
 pub use worked_figures::{agreement, sent, taken, tariff as filing};
 
-// The number that the house's pay orders bear.
+/// The number that the house's pay orders bear.
 pub const SERIAL: u64 = 7;
 
-// What a meter measured in each block: kW, and kWh. A reading that is refused is told as one with nothing in it, here and
-// below, so that each list of calls can be written down at once; none of these is refused.
+/// What a meter measured in each block: kW, and kWh. A reading that is refused is told as one with nothing in it, here and
+/// below, so that each list of calls can be written down at once; none of these is refused.
 pub fn metered(kind: Kind, number: u32, demand: u32, blocks: [u32; BLOCKS]) -> Reading {
     let figures = Figures {
         kind: u32::from(kind),
@@ -28,12 +28,12 @@ pub fn metered(kind: Kind, number: u32, demand: u32, blocks: [u32; BLOCKS]) -> R
     reading
 }
 
-// What a meter measured: kW, and kWh at 01:00, 06:00 and 19:00.
+/// What a meter measured: kW, and kWh at 01:00, 06:00 and 19:00.
 pub fn reading_of(kind: Kind, number: u8, demand: u32, energies: [u32; 3]) -> Reading {
     worked_figures::measured(kind, number, demand, energies).unwrap_or(Reading::empty())
 }
 
-// The same by a meter with number 1.
+/// The same by a meter with number 1.
 pub fn reading(kind: Kind, demand: u32, energies: [u32; 3]) -> Reading {
     reading_of(kind, 1, demand, energies)
 }
@@ -46,8 +46,8 @@ pub fn tariff() -> Call {
     Call::Tariff(filing())
 }
 
-// What is answered to the calls of a house over any bank. No order of another house is there, and what is still in hand at
-// the end is held.
+/// What is answered to the calls of a house over any bank. No order of another house is there, and what is still in hand at
+/// the end is held.
 pub fn answers_of<B: Bank + Drop>(
     heap: Global,
     bank: B,
@@ -61,7 +61,7 @@ pub fn answers_of<B: Bank + Drop>(
     Ok(house.perform_alone(heap, calls)?.hold_all().1)
 }
 
-// The calls of a list in which each has its answer beside it.
+/// The calls of a list in which each has its answer beside it.
 pub fn calls_in(heap: Global, list: &[(Call, Told)]) -> Result<Vec<Call>, AllocError> {
     let mut calls = Vec::new(heap);
     for (call, _) in list {
@@ -70,7 +70,7 @@ pub fn calls_in(heap: Global, list: &[(Call, Told)]) -> Result<Vec<Call>, AllocE
     Ok(calls)
 }
 
-// Sees that the answers are the ones beside the calls of a list.
+/// Sees that the answers are the ones beside the calls of a list.
 pub fn check_told(rt: &impl Abort, answers: &[Answer], list: &[(Call, Told)]) {
     assert_eq!(rt; answers.len(), list.len());
     for (place, (answer, (_, told))) in answers.iter().zip(list).enumerate() {
@@ -78,7 +78,7 @@ pub fn check_told(rt: &impl Abort, answers: &[Answer], list: &[(Call, Told)]) {
     }
 }
 
-// What is answered to the calls of a list, which is to be what stands beside them.
+/// What is answered to the calls of a list, which is to be what stands beside them.
 pub fn checked_answers_of<B: Bank + Drop>(
     rt: &impl Abort,
     heap: Global,
@@ -91,7 +91,7 @@ pub fn checked_answers_of<B: Bank + Drop>(
     Ok(answers)
 }
 
-// The same of the market's own house.
+/// The same of the market's own house.
 pub fn checked_answers(
     rt: &impl Abort,
     heap: Global,
@@ -100,12 +100,12 @@ pub fn checked_answers(
     checked_answers_of(rt, heap, One::new(agreement()), list)
 }
 
-// Why the call with this place in the list was refused, if it was.
+/// Why the call with this place in the list was refused, if it was.
 pub fn refusal_at(answers: &[Answer], place: usize) -> Option<Refusal> {
     answers.get(place)?.refusal()
 }
 
-// The sheet that the call with this place in the list filled.
+/// The sheet that the call with this place in the list filled.
 pub fn sheet_at(answers: &[Answer], place: usize) -> Option<&Sheet> {
     answers.get(place)?.sheet()
 }

@@ -1,4 +1,4 @@
-// Calls that are turned down, each for its own reason, and what goes on after them.
+//! Calls that are turned down, each for its own reason, and what goes on after them.
 use crate::market::{checked_answers, reading, sent, taken, tariff, year};
 use crate::told::Told;
 use agreements::{Cause, Fault};

@@ -1,8 +1,8 @@
-// Answers that can be compared.
+//! Answers that can be compared.
 use history::Answer;
 use ledger::Refusal;
 
-// What is answered to a call, but for the sheet of a closed month.
+/// What is answered to a call, but for the sheet of a closed month.
 #[derive(Clone, Copy, PartialEq, Eq, Debug)]
 pub enum Told {
     Accepted,

@@ -1,4 +1,4 @@
-// The lines of a journal that say what the house is asked to do.
+//! The lines of a journal that say what the house is asked to do.
 ghost use Rattle.std.specs.Prelude.{◌≡◌};
 ghost use Rattle.words.specs.Pieces.{left};
 ghost use Rattle.journal.specs.Fields.{Takes, single};
@@ -12,7 +12,7 @@ use crate::verb::Verb;
 use tariffs::{Filing, Row};
 use words::Words;
 
-// What the house is asked to do. Meter files are given by their names, orders by the order of their draws.
+/// What the house is asked to do. Meter files are given by their names, orders by the order of their draws.
 #[derive(Clone, Copy)]
 pub enum Request<'a> {
     Year(Row),
@@ -25,14 +25,14 @@ pub enum Request<'a> {
     Hold(usize),
 }
 
-// Takes the name of a meter file.
+/// Takes the name of a meter file.
 fn file<'a>(words: &mut Words<'a>) -> Result<&'a [u8], Expected>
     ensures { TakesName (file_of (left words.old)) result (left words.new) }
 {
     words.next().ok_or(Expected::FileName)
 }
 
-// Reads a line that names a meter file and no more.
+/// Reads a line that names a meter file and no more.
 fn meter_file<'a>(mut words: Words<'a>) -> Result<&'a [u8], Expected>
     ensures { TellsName (alone (file_of (left words.entry))) result }
 {
@@ -67,7 +67,7 @@ fn draw<'a>(mut words: Words<'a>) -> Result<Request<'a>, Expected>
     Ok(Request::Draw(place))
 }
 
-// Reads a line that names an order, by the order of its draw, and no more.
+/// Reads a line that names an order, by the order of its draw, and no more.
 fn order(mut words: Words, name: Name) -> Result<usize, Expected>
     ensures { result ≡ alone (single name (left words.entry)) }
 {
@@ -77,7 +77,7 @@ fn order(mut words: Words, name: Name) -> Result<usize, Expected>
 }
 
 impl Market {
-    // Takes what a tariff files.
+    /// Takes what a tariff files.
     #[tactic(auto, unfolding(crate::specs::Calls::filing_of))]
     fn filing(self, words: &mut Words) -> Result<Filing, Expected>
         ensures { Takes (filing_of self (left words.old)) result (left words.new) }
@@ -121,7 +121,7 @@ impl Market {
         Ok(Request::Tariff(filing))
     }
 
-    // Reads a call; the other is what was expected where the line begins as none does.
+    /// Reads a call; the other is what was expected where the line begins as none does.
     #[tactic(auto, unfolding(crate::specs::Calls::request_of, crate::specs::Calls::meter_of, crate::specs::Calls::deliver_of, crate::specs::Calls::release_of, crate::specs::Calls::hold_of))]
     pub fn request<'a>(self, words: Words<'a>, other: Expected) -> Result<Request<'a>, Expected>
         ensures { Tells (request_of self other (left words.entry)) result }

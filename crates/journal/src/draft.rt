@@ -1,4 +1,4 @@
-// What the lines so far have said.
+//! What the lines so far have said.
 ghost use Rattle.std.specs.Prelude.{◌≡◌};
 ghost use Rattle.words.specs.Pieces.{left};
 ghost use Rattle.journal.specs.Lines.{Turns, saying, blank, others, with_station, with_call, with_words};
@@ -12,7 +12,7 @@ use stations::Stations;
 use std::alloc::Global;
 use words::{Words, is_word};
 
-// A call, and the number of its line, counted from 1.
+/// A call, and the number of its line, counted from 1.
 #[derive(Clone, Copy)]
 pub struct Entry<'a> {
     pub line: usize,
@@ -21,16 +21,16 @@ pub struct Entry<'a> {
 
 #[derive(Drop)]
 pub struct Draft<'a> {
-    // What the stations are allocated from.
+    /// What the stations are allocated from.
     heap: Global,
-    // What the market's line has said.
+    /// What the market's line has said.
     pub heading: Option<Heading>,
     pub stations: Stations,
     pub entries: Vec<Entry<'a>>,
 }
 
 impl<'a> Draft<'a> {
-    // Before the first line.
+    /// Before the first line.
     pub fn blank(heap: Global) -> Draft<'a>
         ensures { saying result ≡ blank }
     {
@@ -42,7 +42,7 @@ impl<'a> Draft<'a> {
         }
     }
 
-    // What a line may begin with, once the market is known.
+    /// What a line may begin with, once the market is known.
     fn others(&self) -> Expected
         ensures { result ≡ others (saying self.now) }
     {
@@ -53,7 +53,7 @@ impl<'a> Draft<'a> {
         }
     }
 
-    // A station's line, behind the word that begins it.
+    /// A station's line, behind the word that begins it.
     #[tactic(auto, unfolding(crate::specs::Lines::with_station))]
     fn add_station(&mut self, words: Words) -> Result<(), Unreadable>
         ensures { Turns (with_station (saying self.old) (left words.entry)) result (saying self.new) }
@@ -66,7 +66,7 @@ impl<'a> Draft<'a> {
         }
     }
 
-    // A call's line.
+    /// A call's line.
     #[tactic(auto, unfolding(crate::specs::Lines::with_call))]
     fn add_call(&mut self, market: Market, line: usize, words: Words<'a>) -> Result<(), Unreadable>
         ensures { Turns (with_call (saying self.old) market line (left words.entry)) result (saying self.new) }
@@ -76,7 +76,7 @@ impl<'a> Draft<'a> {
         Ok(())
     }
 
-    // One more line, by its number and its words.
+    /// One more line, by its number and its words.
     #[tactic(auto, unfolding(crate::specs::Lines::with_words, crate::specs::Lines::with_heading))]
     pub fn add_line(&mut self, line: usize, words: Words<'a>) -> Result<(), Unreadable>
         ensures { Turns (with_words (saying self.old) line (left words.entry)) result (saying self.new) }

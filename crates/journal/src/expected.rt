@@ -1,4 +1,4 @@
-// What a line that cannot be read should have said.
+//! What a line that cannot be read should have said.
 ghost use Rattle.std.specs.Prelude.{◌≡◌};
 
 use crate::name::Name;
@@ -6,40 +6,40 @@ use std::alloc::AllocFailed;
 
 #[derive(Clone, Copy)]
 pub enum Expected {
-    // The market's line, which comes first.
+    /// The market's line, which comes first.
     MarketLine,
-    // Before the first call: a station or a call.
+    /// Before the first call: a station or a call.
     StationOrCall,
-    // A call.
+    /// A call.
     AnyCall,
-    // The kind of a station's agreement.
+    /// The kind of a station's agreement.
     Agreement,
-    // A field by its name.
+    /// A field by its name.
     Field(Name),
-    // As many figures as the field wants.
+    /// As many figures as the field wants.
     Count {
         name: Name,
         wanted: usize,
         found: usize,
     },
-    // Figures that fit the field.
+    /// Figures that fit the field.
     Most {
         name: Name,
         most: u64,
     },
-    // The name of a meter file.
+    /// The name of a meter file.
     FileName,
-    // Nothing more.
+    /// Nothing more.
     End,
-    // Figures within the limits of a two-part agreement.
+    /// Figures within the limits of a two-part agreement.
     TwoPartLimits,
-    // Figures within the limits of a quota.
+    /// Figures within the limits of a quota.
     QuotaLimits,
-    // No further station: every place is taken.
+    /// No further station: every place is taken.
     NoStation,
 }
 
-// Why a line is not read.
+/// Why a line is not read.
 #[derive(Clone, Copy)]
 pub enum Unreadable {
     Lacks(Expected),

@@ -1,4 +1,4 @@
-// Why a text is not a journal.
+//! Why a text is not a journal.
 ghost use Rattle.std.specs.Prelude.{Some};
 ghost use Rattle.journal.specs.Messages.{expected_text};
 
@@ -8,10 +8,10 @@ use metering::PLACES;
 use std::fmt;
 use words::{Counted, LineFault};
 
-// The first line, counted from 1, that cannot be read, and what was expected there.
+/// The first line, counted from 1, that cannot be read, and what was expected there.
 pub type Fault = LineFault<Expected>;
 
-// Why a text is not read.
+/// Why a text is not read.
 #[derive(Clone, Copy)]
 pub enum Unread {
     At(Fault),

@@ -1,4 +1,4 @@
-// Fields: a name and then so many figures.
+//! Fields: a name and then so many figures.
 ghost use Rattle.std.specs.Prelude.{◌≡◌, ℕ, ◌+◌, ◌^◌, ◌<◌, List, [], ◌∷◌, ◌++◌};
 ghost use Rattle.words.specs.Pieces.{left};
 ghost use Rattle.journal.specs.Fields.{Takes, Passes, Runs, keyword, named, run, row_of, figures, field, single, ended};
@@ -9,7 +9,7 @@ use rates::HEADS;
 use tariffs::Row;
 use words::{Words, is_figure, is_word, number};
 
-// Takes a word that has to be this one.
+/// Takes a word that has to be this one.
 pub fn keyword(words: &mut Words, text: &str, expected: Expected) -> Result<(), Expected>
     ensures { Passes (keyword text.now expected (left words.old)) result (left words.new) }
 {
@@ -19,8 +19,8 @@ pub fn keyword(words: &mut Words, text: &str, expected: Expected) -> Result<(), 
     }
 }
 
-// Takes a name.
-// Functions, here and below, and no struct of the two: `Words` is another crate's, and the name is another at each call.
+/// Takes a name.
+/// Functions, here and below, and no struct of the two: `Words` is another crate's, and the name is another at each call.
 #[tactic(auto, unfolding(crate::specs::Fields::named))]
 pub fn named(words: &mut Words, name: Name) -> Result<(), Expected>
     ensures { Passes (named name (left words.old)) result (left words.new) }
@@ -28,7 +28,7 @@ pub fn named(words: &mut Words, name: Name) -> Result<(), Expected>
     keyword(words, name.text(), Expected::Field(name))
 }
 
-// The row with one figure more.
+/// The row with one figure more.
 fn with_figure(mut row: Row, figure: u64) -> Row
     requires { row.count + 1 < 2 ^ 64 }
     ensures { (fs : List ℕ) → row ≡ row_of fs → result ≡ row_of (fs ++ (figure ∷ [])) }
@@ -40,7 +40,7 @@ fn with_figure(mut row: Row, figure: u64) -> Row
     row
 }
 
-// Takes all figures up to the first word that is none.
+/// Takes all figures up to the first word that is none.
 fn run(words: &mut Words, name: Name) -> Result<Row, Expected>
     ensures { Runs (run name [] (left words.old)) result (left words.new) }
 {
@@ -66,7 +66,7 @@ fn run(words: &mut Words, name: Name) -> Result<Row, Expected>
     Ok(row)
 }
 
-// Takes so many figures.
+/// Takes so many figures.
 #[tactic(auto, unfolding(crate::specs::Fields::figures))]
 pub fn figures(words: &mut Words, name: Name, wanted: usize) -> Result<Row, Expected>
     ensures { Takes (figures name wanted (left words.old)) result (left words.new) }
@@ -82,7 +82,7 @@ pub fn figures(words: &mut Words, name: Name, wanted: usize) -> Result<Row, Expe
     Ok(row)
 }
 
-// Takes a name and so many figures.
+/// Takes a name and so many figures.
 #[tactic(auto, unfolding(crate::specs::Fields::field))]
 pub fn field(words: &mut Words, name: Name, wanted: usize) -> Result<Row, Expected>
     ensures { Takes (field name wanted (left words.old)) result (left words.new) }
@@ -91,7 +91,7 @@ pub fn field(words: &mut Words, name: Name, wanted: usize) -> Result<Row, Expect
     figures(words, name, wanted)
 }
 
-// Takes a name and one figure.
+/// Takes a name and one figure.
 #[tactic(auto, unfolding(crate::specs::Fields::single))]
 pub fn single(words: &mut Words, name: Name) -> Result<u64, Expected>
     ensures { Takes (single name (left words.old)) result (left words.new) }
@@ -100,7 +100,7 @@ pub fn single(words: &mut Words, name: Name) -> Result<u64, Expected>
     Ok(row.figures[0])
 }
 
-// Nothing more stands on the line.
+/// Nothing more stands on the line.
 pub fn ended(mut words: Words) -> Result<(), Expected>
     ensures { result ≡ ended (left words.entry) }
 {

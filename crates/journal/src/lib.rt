@@ -1,4 +1,4 @@
-// The text of an operator's journal.
+//! The text of an operator's journal.
 #![tactic(auto)]
 
 pub mod call;

@@ -1,4 +1,4 @@
-// The market's line: which of the two markets, and the house's serial.
+//! The market's line: which of the two markets, and the house's serial.
 ghost use Rattle.std.specs.Prelude.{◌≡◌};
 ghost use Rattle.words.specs.Pieces.{left};
 ghost use Rattle.journal.specs.Fields.{Takes, Passes};
@@ -17,7 +17,7 @@ pub enum Market {
 }
 
 impl Market {
-    // How many allowed revenues a year files, and how many intervals a day has.
+    /// How many allowed revenues a year files, and how many intervals a day has.
     pub fn shape(self) -> Shape
         ensures revenues { result.revenues ≡ revenues_of self }
         ensures intervals { result.intervals ≡ intervals_of self }
@@ -35,14 +35,14 @@ pub struct Heading {
     pub serial: u64,
 }
 
-// Takes the word that begins the line.
+/// Takes the word that begins the line.
 fn begun(words: &mut Words) -> Result<(), Expected>
     ensures { Passes (begun (left words.old)) result (left words.new) }
 {
     keyword(words, "market", Expected::MarketLine)
 }
 
-// Takes the word that says which market it is.
+/// Takes the word that says which market it is.
 fn which(words: &mut Words) -> Result<Market, Expected>
     ensures { Takes (market_of (left words.old)) result (left words.new) }
 {
@@ -56,7 +56,7 @@ fn which(words: &mut Words) -> Result<Market, Expected>
     }
 }
 
-// Reads the market's line.
+/// Reads the market's line.
 #[tactic(auto, unfolding(crate::specs::Headings::heading_of))]
 pub fn read_heading(mut words: Words) -> Result<Heading, Expected>
     ensures { result ≡ heading_of (left words.entry) }

@@ -1,4 +1,4 @@
-// The names of the fields of a journal's lines.
+//! The names of the fields of a journal's lines.
 ghost use Rattle.std.specs.Prelude.{◌≡◌, Some};
 ghost use Rattle.journal.specs.Names.{name_text};
 
@@ -29,7 +29,7 @@ pub enum Name {
 }
 
 impl Name {
-    // The word itself.
+    /// The word itself.
     pub fn text(self) -> &'static str
         ensures { result.now ≡ name_text self }
     {

@@ -1,4 +1,4 @@
-// Reading the text of a journal.
+//! Reading the text of a journal.
 ghost use Rattle.std.specs.Prelude.{◌≡◌, ◌+◌, ◌^◌, ◌<◌};
 ghost use Rattle.journal.specs.Lines.{saying};
 ghost use Rattle.journal.specs.Text.{Reads, finished, unread_at, journal_of};
@@ -11,7 +11,7 @@ use stations::Stations;
 use std::alloc::Global;
 use words::{Lines, Words};
 
-// What an operator asks: of which market, with what stations, and which calls in their order.
+/// What an operator asks: of which market, with what stations, and which calls in their order.
 #[derive(Drop)]
 pub struct Journal<'a> {
     pub market: Market,
@@ -20,7 +20,7 @@ pub struct Journal<'a> {
     pub entries: Vec<Entry<'a>>,
 }
 
-// The journal, if the last of `lines` lines leaves nothing to be said.
+/// The journal, if the last of `lines` lines leaves nothing to be said.
 fn finish<'a>(draft: Draft<'a>, lines: usize) -> Result<Journal<'a>, Unread>
     requires { lines + 1 < 2 ^ 64 }
     ensures { Reads (finished lines (saying draft.entry)) result }
@@ -39,7 +39,7 @@ fn finish<'a>(draft: Draft<'a>, lines: usize) -> Result<Journal<'a>, Unread>
     })
 }
 
-// Why a text is not read, one of whose lines is not read.
+/// Why a text is not read, one of whose lines is not read.
 fn unread_at(line: usize, why: Unreadable) -> Unread
     ensures { result ≡ unread_at line why }
 {
@@ -49,7 +49,7 @@ fn unread_at(line: usize, why: Unreadable) -> Unread
     }
 }
 
-// The journal in a text, or the first line that cannot be read and what was expected there.
+/// The journal in a text, or the first line that cannot be read and what was expected there.
 pub fn parse_journal<'a>(heap: Global, text: &'a [u8]) -> Result<Journal<'a>, Unread>
     ensures { Reads (journal_of text.now) result }
 {

@@ -1,4 +1,4 @@
-// A station's line: the figures of its agreement, and the index layers above it from the bottom up.
+//! A station's line: the figures of its agreement, and the index layers above it from the bottom up.
 ghost use Rattle.std.specs.Prelude.{◌≡◌, []};
 ghost use Rattle.stations.specs.Layers.{station_meaning};
 ghost use Rattle.words.specs.Pieces.{left};
@@ -12,7 +12,7 @@ use stations::{Figures, Station};
 use std::alloc::Global;
 use words::Words;
 
-// Takes three fields of one figure each.
+/// Takes three fields of one figure each.
 #[tactic(auto, unfolding(crate::specs::Places::three_of))]
 fn three(
     words: &mut Words,
@@ -28,7 +28,7 @@ fn three(
     Ok((first, second, third))
 }
 
-// Takes the kind of the agreement and its figures.
+/// Takes the kind of the agreement and its figures.
 #[tactic(auto, unfolding(crate::specs::Places::figures_of, crate::specs::Places::two_part_of, crate::specs::Places::quota_of))]
 fn filed(words: &mut Words) -> Result<Figures, Expected>
     ensures { Takes (figures_of (left words.old)) result (left words.new) }
@@ -62,7 +62,7 @@ fn filed(words: &mut Words) -> Result<Figures, Expected>
     }
 }
 
-// The factors of the layers, the lowest first, to the end of the line.
+/// The factors of the layers, the lowest first, to the end of the line.
 fn layers(heap: Global, mut words: Words) -> Result<Vec<u64>, Unreadable>
     ensures { Gives (λ v. v.items) (layers [] (left words.entry)) result }
 {
@@ -77,7 +77,7 @@ fn layers(heap: Global, mut words: Words) -> Result<Vec<u64>, Unreadable>
     Ok(factors)
 }
 
-// What was expected where an agreement is over its limits.
+/// What was expected where an agreement is over its limits.
 fn limits(figures: Figures) -> Expected
     ensures { result ≡ limits figures }
 {
@@ -87,7 +87,7 @@ fn limits(figures: Figures) -> Expected
     }
 }
 
-// Reads what stands behind the word that begins a station's line.
+/// Reads what stands behind the word that begins a station's line.
 #[tactic(auto, unfolding(crate::specs::Places::station_of))]
 pub fn read_station(heap: Global, mut words: Words) -> Result<Station, Unreadable>
     ensures { Gives station_meaning (station_of (left words.entry)) result }

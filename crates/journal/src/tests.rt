@@ -1,10 +1,10 @@
-// Journals as an operator writes them.
+//! Journals as an operator writes them.
 use super::*;
 use banks::Bank;
 use std::alloc::{AllocError, Global};
 use std::test::Fail;
 
-// What is said of a text.
+/// What is said of a text.
 fn told(heap: Global, text: &str) -> Result<String, AllocError> {
     match parse_journal(heap, text.as_bytes()) {
         Ok(_) => format!(in heap; "read"),

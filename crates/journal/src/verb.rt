@@ -1,4 +1,4 @@
-// The words with which calls begin.
+//! The words with which calls begin.
 ghost use Rattle.std.specs.Prelude.{◌≡◌};
 ghost use Rattle.journal.specs.Verbs.{verb_text, verb_of};
 
@@ -28,8 +28,8 @@ impl Verb {
         Verb::Hold,
     ];
 
-    // The word itself. `printout` has these words too: verbs are no matter of `words`, and `printout`'s come from calls of
-    // `history`, by a `From` that must stand where one of its types does; one enum for both would need a crate below the two.
+    /// The word itself. `printout` has these words too: verbs are no matter of `words`, and `printout`'s come from calls of
+    /// `history`, by a `From` that must stand where one of its types does; one enum for both would need a crate below the two.
     fn text(self) -> &'static str
         ensures { result.now ≡ verb_text self }
     {
@@ -45,7 +45,7 @@ impl Verb {
         }
     }
 
-    // The verb that a word is.
+    /// The verb that a word is.
     pub fn of(word: &[u8]) -> Option<Verb>
         ensures { result ≡ verb_of word.now }
     {

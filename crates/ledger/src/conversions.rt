@@ -1,4 +1,4 @@
-// The refusals of the parts, as the house tells them.
+//! The refusals of the parts, as the house tells them.
 ghost use Rattle.std.specs.Prelude.{◌≡◌};
 ghost use Rattle.ledger.specs.Refusals.{of_year, of_tariff, of_close, of_till, of_bank};
 

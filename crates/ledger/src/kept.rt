@@ -1,4 +1,4 @@
-// All that a house keeps in plain numbers.
+//! All that a house keeps in plain numbers.
 use crate::stage::Stage;
 use accounts::{Books, Month};
 use orders::Till;
@@ -7,14 +7,14 @@ use rates::{Rates, Revenues};
 #[derive(Drop)]
 pub struct Ledger {
     pub stage: Stage,
-    // The year's allowed revenues.
+    /// The year's allowed revenues.
     pub revenues: Revenues,
-    // The tariff in force.
+    /// The tariff in force.
     pub rates: Rates,
-    // What lasts from month to month.
+    /// What lasts from month to month.
     pub books: Books,
-    // The open month; without readings while none is open.
+    /// The open month; without readings while none is open.
     pub month: Month,
-    // The stations' money.
+    /// The stations' money.
     pub till: Till,
 }

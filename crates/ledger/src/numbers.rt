@@ -1,4 +1,4 @@
-// The number and the values of a refusal.
+//! The number and the values of a refusal.
 ghost use Rattle.std.specs.Prelude.{◌≡◌};
 ghost use Rattle.ledger.specs.Refusals.{number_of, head_of, fault_of};
 
@@ -6,7 +6,7 @@ use crate::refusal::Refusal;
 use agreements::Fault;
 
 impl Refusal {
-    // The refusal's number.
+    /// The refusal's number.
     pub fn number(self) -> u8
         ensures { result ≡ number_of self }
     {
@@ -30,7 +30,7 @@ impl Refusal {
         }
     }
 
-    // The head that it names, where it names one.
+    /// The head that it names, where it names one.
     pub fn head(self) -> Option<usize>
         ensures { result ≡ head_of self }
     {
@@ -44,7 +44,7 @@ impl Refusal {
         }
     }
 
-    // The agreement's own fault, where that is the reason.
+    /// The agreement's own fault, where that is the reason.
     pub fn fault(self) -> Option<Fault>
         ensures { result ≡ fault_of self }
     {

@@ -1,4 +1,4 @@
-// Where a house stands in the year: year, tariff, months 1 to 6, tariff, months 7 to 12, and the next year.
+//! Where a house stands in the year: year, tariff, months 1 to 6, tariff, months 7 to 12, and the next year.
 #[derive(Clone, Copy, PartialEq, Eq, Debug)]
 pub enum Half {
     First,
@@ -7,10 +7,10 @@ pub enum Half {
 
 #[derive(Clone, Copy, PartialEq, Eq, Debug)]
 pub enum Stage {
-    // A year is to be filed.
+    /// A year is to be filed.
     BeforeYear,
-    // The tariff of a half-year is to be filed.
+    /// The tariff of a half-year is to be filed.
     BeforeTariff(Half),
-    // A month is open, by its number in the year.
+    /// A month is open, by its number in the year.
     InMonth(u8),
 }

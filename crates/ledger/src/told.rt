@@ -1,11 +1,11 @@
-// What is printed of a refusal.
+//! What is printed of a refusal.
 ghost use Rattle.std.specs.Prelude.{Some};
 ghost use Rattle.ledger.specs.Text.{refusal_text};
 
 use crate::refusal::Refusal;
 use std::fmt;
 
-// As `refused 12`, `refused 17 head 3` or `refused 10 cause 1 layer 0`.
+/// As `refused 12`, `refused 17 head 3` or `refused 10 cause 1 layer 0`.
 impl fmt::Display for Refusal {
     ghost output = { λ r. Some (refusal_text r) };
 

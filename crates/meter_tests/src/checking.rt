@@ -1,4 +1,4 @@
-// Which bytes are a meter file.
+//! Which bytes are a meter file.
 use meter_files::check_file;
 use metering::Refusal;
 
@@ -7,7 +7,7 @@ fn eight_bytes_with_no_block_pass(rt: HostRuntime) {
     assert_eq!(rt; check_file(&[0, 0, 1, 1, 0, 0, 0, 0]), Ok(()));
 }
 
-// A file of a generator that lists every block with 1 kWh, and one byte more.
+/// A file of a generator that lists every block with 1 kWh, and one byte more.
 fn full_file() -> [u8; 249] {
     let mut bytes = [0u8; 249];
     bytes[0] = 48;

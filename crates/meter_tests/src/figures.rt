@@ -1,8 +1,8 @@
-// The text of figures.
+//! The text of figures.
 use figures_text::{Expected, TextFault, parse_figures};
 use std::test::Fail;
 
-// The line that is wrong, and what is expected there.
+/// The line that is wrong, and what is expected there.
 fn fault(text: &str) -> Option<(usize, Expected)> {
     let TextFault { line, expected } = parse_figures(text.as_bytes()).err()?;
     Some((line, expected))

@@ -1,4 +1,4 @@
-// Meter files by example: each limit at and past it, the order of the checks, and what stays when a call refuses.
+//! Meter files by example: each limit at and past it, the order of the checks, and what stays when a call refuses.
 #![tactic(auto)]
 
 #[cfg(test)]

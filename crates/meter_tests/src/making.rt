@@ -1,7 +1,7 @@
-// Making a reading from figures.
+//! Making a reading from figures.
 use metering::{BLOCKS, Figures, Reading, Refusal, make_reading};
 
-// What making a reading of these figures answers, block 47 having this energy.
+/// What making a reading of these figures answers, block 47 having this energy.
 fn made(kind: u32, number: u32, demand: u32, last: u32) -> Result<(), Refusal> {
     let mut blocks = [0; BLOCKS];
     blocks[47] = last;

@@ -1,8 +1,8 @@
-// Reading and writing a meter file.
+//! Reading and writing a meter file.
 use meter_files::{FILE_LIMIT, read_file, write_file};
 use metering::{Kind, Reading, Refusal};
 
-// Generator 1 with 100 kW, and 20, 30 and 20 kWh in blocks 2, 12 and 38.
+/// Generator 1 with 100 kW, and 20, 30 and 20 kWh in blocks 2, 12 and 38.
 const STATION: [u8; 23] = [
     3, 0, 1, 1, 100, 0, 0, 0, 2, 12, 38, 20, 0, 0, 0, 30, 0, 0, 0, 20, 0, 0, 0,
 ];

@@ -1,4 +1,4 @@
-// The half-hours of a day, as people write them.
+//! The half-hours of a day, as people write them.
 ghost use Rattle.std.specs.Prelude.{◌≡◌, ◌<◌, is_some, IfSome, Some, nat_lt};
 ghost use Rattle.metering.specs.Limits.{block_count};
 ghost use Rattle.metering.specs.Text.{clock_text, half_hour_text};
@@ -6,7 +6,7 @@ ghost use Rattle.metering.specs.Text.{clock_text, half_hour_text};
 use crate::reading::BLOCKS;
 use std::fmt;
 
-// A time of day, counted in half-hours after midnight: 11 is 05:30.
+/// A time of day, counted in half-hours after midnight: 11 is 05:30.
 #[derive(Clone, Copy)]
 struct ClockTime(u8);
 
@@ -20,7 +20,7 @@ impl fmt::Display for ClockTime {
     }
 }
 
-// The half-hour of a block: block 11 is 05:30-06:00.
+/// The half-hour of a block: block 11 is 05:30-06:00.
 #[derive(Clone, Copy)]
 pub struct HalfHour {
     block: u8,
@@ -28,8 +28,8 @@ pub struct HalfHour {
 }
 
 impl HalfHour {
-    // The half-hour of a block, if the day has that block. An Option and no `TryFrom`: the refusal of a block is
-    // `Refusal::Energy` in figures and none where a half-hour is asked for.
+    /// The half-hour of a block, if the day has that block. An Option and no `TryFrom`: the refusal of a block is
+    /// `Refusal::Energy` in figures and none where a half-hour is asked for.
     pub fn of(block: usize) -> Option<HalfHour>
         ensures test { is_some result ≡ nat_lt block block_count }
         ensures found { IfSome result (λ h. h.block ≡ block) }

@@ -1,4 +1,4 @@
-// Readings: what a meter measured in a month, its limits, and why figures are turned down.
+//! Readings: what a meter measured in a month, its limits, and why figures are turned down.
 #![tactic(auto)]
 
 pub mod figures;

@@ -1,4 +1,4 @@
-// The heads of a methodology in their order, counted from 1: generation, the revenues, the intervals.
+//! The heads of a methodology in their order, counted from 1: generation, the revenues, the intervals.
 ghost use Rattle.std.specs.Prelude.{◌≡◌, ◌+◌, ◌<◌, ◌≤◌, nat_le};
 ghost use Rattle.metering.specs.Limits.{block_count};
 ghost use Rattle.methodology.specs.Limits.{head_limit};
@@ -9,7 +9,7 @@ use crate::rules::Methodology;
 use crate::shape::Shape;
 
 impl Shape {
-    // How many heads there are.
+    /// How many heads there are.
     pub fn heads(&self) -> usize
         ensures value { result ≡ heads_of self.now }
         ensures range { (2 ≤ result) × (result ≤ head_limit) }
@@ -17,7 +17,7 @@ impl Shape {
         1 + self.revenues + self.intervals
     }
 
-    // The head with a number. 0 counts as 1; past the last head come intervals that no block is in.
+    /// The head with a number. 0 counts as 1; past the last head come intervals that no block is in.
     pub fn head(&self, number: usize) -> Head
         ensures value { result ≡ head_at self.now number }
         ensures order { Ordered self.now }
@@ -34,14 +34,14 @@ impl Shape {
 }
 
 impl Head {
-    // Whether the head is billed by demand, kW, and not by energy, kWh.
+    /// Whether the head is billed by demand, kW, and not by energy, kWh.
     pub fn is_demand(self) -> bool
         ensures { result ≡ by_demand self }
     {
         matches!(self, Head::Generation | Head::Revenue(_))
     }
 
-    // Most that a rate of this head may be, grains per kW or per kWh.
+    /// Most that a rate of this head may be, grains per kW or per kWh.
     pub fn rate_limit(self) -> u64
         ensures { result ≡ rate_limit self }
     {
@@ -53,7 +53,7 @@ impl Head {
     }
 }
 
-// The number of the head that a block's energy goes to.
+/// The number of the head that a block's energy goes to.
 pub fn head_of_block<M: Methodology>(m: &M, block: usize) -> usize
     ensures value { block < block_count → result ≡ 1 + M.shape.revenues + (M.meaning m.now).interval block }
     ensures range { block < block_count → (1 + M.shape.revenues < result) × (result ≤ heads_of M.shape) }

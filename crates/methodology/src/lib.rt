@@ -1,4 +1,4 @@
-// Methodologies: how a market divides its day into intervals and what supply it allows, and the heads that follow from it.
+//! Methodologies: how a market divides its day into intervals and what supply it allows, and the heads that follow from it.
 #![tactic(auto)]
 
 pub mod head;

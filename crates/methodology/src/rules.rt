@@ -1,4 +1,4 @@
-// What a methodology is.
+//! What a methodology is.
 ghost use Rattle.std.specs.Prelude.{◌≡◌, ℕ, ◌<◌, ◌≤◌};
 ghost use Rattle.metering.specs.Limits.{block_count};
 ghost use Rattle.methodology.specs.declared.shape.Shape.{Shape};
@@ -7,26 +7,26 @@ ghost use Rattle.methodology.specs.Meaning.{Meaning, UpTo, OneToTwo};
 
 use crate::shape::Shape;
 
-// A market's own rules: which interval a block of the day is in, and how much of the energy sent in its price may cover.
-// It refuses nothing and never changes. Intervals are numbers from 1, and no enum of one market's, for code over any market
-// goes by them; nothing is said of a block that the day has not, since a type of blocks would ask more of callers.
+/// A market's own rules: which interval a block of the day is in, and how much of the energy sent in its price may cover.
+/// It refuses nothing and never changes. Intervals are numbers from 1, and no enum of one market's, for code over any market
+/// goes by them; nothing is said of a block that the day has not, since a type of blocks would ask more of callers.
 pub trait Methodology {
-    // How many allowed revenues it has.
+    /// How many allowed revenues it has.
     const REVENUES: usize;
 
-    // How many intervals its day has.
+    /// How many intervals its day has.
     const INTERVALS: usize;
 
     ghost REVENUES: { ℕ };
 
     ghost INTERVALS: { ℕ };
 
-    // The two counts, within the limits of a shape.
+    /// The two counts, within the limits of a shape.
     ghost shape: { Shape };
 
     ghost meaning: { Self → Meaning };
 
-    // The two counts.
+    /// The two counts.
     fn shape() -> Shape
         ensures revenues { result.revenues ≡ shape.revenues }
         ensures intervals { result.intervals ≡ shape.intervals }
@@ -38,11 +38,11 @@ pub trait Methodology {
         }
     }
 
-    // The interval of a block, counted from 1.
+    /// The interval of a block, counted from 1.
     fn interval_of(&self, block: usize) -> usize
         ensures { block < block_count → result ≡ (meaning self.now).interval block };
 
-    // The supply of an interval that its price may cover, kWh: by the energy sent in and delivered, kWh, and the filed loss factor, ppm.
+    /// The supply of an interval that its price may cover, kWh: by the energy sent in and delivered, kWh, and the filed loss factor, ppm.
     fn allowed_supply(&self, sent: u64, delivered: u64, factor: u32) -> u64
         ensures { sent ≤ supply_limit → delivered ≤ supply_limit → factor ≤ factor_limit → result ≡ (meaning self.now).allowed sent delivered factor };
 
@@ -50,6 +50,6 @@ pub trait Methodology {
 
     ghost placed: { (m : Self) (block : ℕ) → block < block_count → UpTo shape.intervals ((meaning m).interval block) };
 
-    // When the energy sent in is from one to two times the energy delivered, so is allowed supply.
+    /// When the energy sent in is from one to two times the energy delivered, so is allowed supply.
     ghost supplied: { (m : Self) (sent delivered factor : ℕ) → sent ≤ supply_limit → factor ≤ factor_limit → OneToTwo delivered sent → OneToTwo delivered ((meaning m).allowed sent delivered factor) };
 }

@@ -1,8 +1,8 @@
-// How many allowed revenues and intervals a methodology has.
+//! How many allowed revenues and intervals a methodology has.
 ghost use Rattle.std.specs.Prelude.{◌+◌, ◌≤◌};
 ghost use Rattle.methodology.specs.Limits.{revenue_limit, head_limit};
 
-// An allowed revenue is a yearly sum that the regulator lets a company collect. An interval is a part of the day with a rate of its own.
+/// An allowed revenue is a yearly sum that the regulator lets a company collect. An interval is a part of the day with a rate of its own.
 #[derive(Clone, Copy)]
 pub struct Shape {
     pub revenues: usize,

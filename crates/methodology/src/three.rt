@@ -1,4 +1,4 @@
-// Three intervals, after the methodology of Sri Lanka's regulator (PUCSL, January 2021).
+//! Three intervals, after the methodology of Sri Lanka's regulator (PUCSL, January 2021).
 ghost use Rattle.std.specs.Prelude.{◌≡◌, ◌<◌, refl};
 ghost use Rattle.metering.specs.Limits.{block_count};
 ghost use Rattle.methodology.specs.Markets.{begins, three_shape, three_meaning, three_by_the_clock};
@@ -12,7 +12,7 @@ const PEAK: usize = 2;
 
 const OFF_PEAK: usize = 3;
 
-// Its revenues are those for transmission, and for bulk supply and operations.
+/// Its revenues are those for transmission, and for bulk supply and operations.
 #[derive(Clone, Copy)]
 pub struct ThreeIntervals;
 
@@ -35,7 +35,7 @@ impl Methodology for ThreeIntervals {
 
     ghost supplied = { Prim.search rules };
 
-    // Block 11 begins at 05:30, block 37 at 18:30, block 45 at 22:30.
+    /// Block 11 begins at 05:30, block 37 at 18:30, block 45 at 22:30.
     fn interval_of(&self, block: usize) -> usize
         ensures value { block < block_count → result ≡ three_meaning.interval block }
         ensures clock { block < block_count → result ≡ three_by_the_clock (begins block) }
@@ -47,7 +47,7 @@ impl Methodology for ThreeIntervals {
         }
     }
 
-    // All that was sent in.
+    /// All that was sent in.
     fn allowed_supply(&self, sent: u64, delivered: u64, factor: u32) -> u64 {
         sent
     }

@@ -1,4 +1,4 @@
-// Two intervals, after the methodology of Malawi's regulator (MERA, November 2015).
+//! Two intervals, after the methodology of Malawi's regulator (MERA, November 2015).
 ghost use Rattle.std.specs.Prelude.{◌≡◌, ◌<◌, refl};
 ghost use Rattle.metering.specs.Limits.{block_count};
 ghost use Rattle.methodology.specs.Markets.{begins, two_shape, two_meaning, two_by_the_clock};
@@ -12,7 +12,7 @@ const PEAK: usize = 1;
 
 const OFF_PEAK: usize = 2;
 
-// Its revenues are those for transmission, for the single buyer, and for the system and market operator.
+/// Its revenues are those for transmission, for the single buyer, and for the system and market operator.
 #[derive(Clone, Copy)]
 pub struct TwoIntervals;
 
@@ -35,7 +35,7 @@ impl Methodology for TwoIntervals {
 
     ghost supplied = { λ m sent delivered factor few filed ratio. (no_less delivered factor, at_most_double delivered factor filed) };
 
-    // Block 34 begins at 17:00, block 42 at 21:00.
+    /// Block 34 begins at 17:00, block 42 at 21:00.
     fn interval_of(&self, block: usize) -> usize
         ensures value { block < block_count → result ≡ two_meaning.interval block }
         ensures clock { block < block_count → result ≡ two_by_the_clock (begins block) }
@@ -46,7 +46,7 @@ impl Methodology for TwoIntervals {
         }
     }
 
-    // What was delivered, and the filed losses on top.
+    /// What was delivered, and the filed losses on top.
     fn allowed_supply(&self, sent: u64, delivered: u64, factor: u32) -> u64 {
         u64::try_from(scale_ppm(delivered, factor)).unwrap_or(u64::MAX)
     }

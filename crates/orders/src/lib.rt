@@ -1,4 +1,4 @@
-// Money at the places of a market: what stands there, and the pay orders drawn on it.
+//! Money at the places of a market: what stands there, and the pay orders drawn on it.
 #![tactic(auto)]
 
 pub mod limits;

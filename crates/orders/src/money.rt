@@ -1,4 +1,4 @@
-// The money of one place.
+//! The money of one place.
 ghost use Rattle.std.specs.Prelude.{◌≡◌, ◌+◌, ◌*◌, ◌≤◌, nat_le, is_some, IfSome};
 ghost use Rattle.orders.specs.Limits.{cent, money_limit};
 
@@ -6,15 +6,15 @@ use crate::limits::{CENT, MONEY_LIMIT};
 
 #[derive(Clone, Copy)]
 pub struct Money {
-    // Grains that no order is drawn on.
+    /// Grains that no order is drawn on.
     pub standing: u64,
-    // Cents on orders that are drawn and neither released nor held.
+    /// Cents on orders that are drawn and neither released nor held.
     pub on_orders: u64,
     ghost within: { standing + cent * on_orders ≤ money_limit },
 }
 
 impl Money {
-    // No money. There is no `Default`, since a struct with a ghost field has no derive of it.
+    /// No money. There is no `Default`, since a struct with a ghost field has no derive of it.
     pub(crate) fn none() -> Money
         ensures { (result.standing ≡ 0) × (result.on_orders ≡ 0) }
     {
@@ -24,7 +24,7 @@ impl Money {
         }
     }
 
-    // It with so many grains more standing, where that keeps the limit.
+    /// It with so many grains more standing, where that keeps the limit.
     pub(crate) fn with(self, grains: u128) -> Option<Money>
         ensures room { is_some result ≡ nat_le (grains + (self.standing + cent * self.on_orders)) money_limit }
         ensures more { IfSome result (λ m. (m.standing ≡ self.standing + grains) × (m.on_orders ≡ self.on_orders)) }

@@ -1,20 +1,20 @@
-// Pay orders: plain numbers, made by a draw and spent by a release or a hold.
+//! Pay orders: plain numbers, made by a draw and spent by a release or a hold.
 ghost use Rattle.std.specs.Prelude.{◌≡◌, ◌<◌, ◌≤◌};
 ghost use Rattle.orders.specs.Limits.{place_limit, returned_number};
 
 use crate::place::Place;
 use crate::till::refusal::RETURNED;
 
-// An order to pay a station. Whoever has one in hand must see it released or held: it cannot be let go.
+/// An order to pay a station. Whoever has one in hand must see it released or held: it cannot be let go.
 pub struct PayOrder {
     serial: u64,
     place: u8,
     cents: u64,
-    // `Place` has this fact too, and is no field here: ledger's definitions speak of the order's number.
+    /// `Place` has this fact too, and is no field here: ledger's definitions speak of the order's number.
     ghost placed: { (1 ≤ place) × (place ≤ place_limit) },
 }
 
-// A draw makes no order of less than a cent, so nobody who was given one may drop it: only an order of no cents could be let go.
+/// A draw makes no order of less than a cent, so nobody who was given one may drop it: only an order of no cents could be let go.
 impl Drop for PayOrder {
     fn drop(self)
         requires { self.cents ≡ 0 }
@@ -28,7 +28,7 @@ impl Drop for PayOrder {
 }
 
 impl PayOrder {
-    // Drawn by a till only.
+    /// Drawn by a till only.
     pub(crate) fn new(serial: u64, place: Place, cents: u64) -> PayOrder
         requires { 0 < cents }
         ensures { (result.serial ≡ serial) × (result.place ≡ place.number) × (result.cents ≡ cents) }
@@ -40,14 +40,14 @@ impl PayOrder {
         }
     }
 
-    // The serial of the house that drew it.
+    /// The serial of the house that drew it.
     pub fn serial(&self) -> u64
         ensures { result ≡ self.now.serial }
     {
         self.serial
     }
 
-    // The place that it pays, counted from 1.
+    /// The place that it pays, counted from 1.
     pub fn place(&self) -> u8
         ensures value { result ≡ self.now.place }
         ensures range { (1 ≤ result) × (result ≤ place_limit) }
@@ -55,21 +55,21 @@ impl PayOrder {
         self.place
     }
 
-    // The same as a place that there is.
+    /// The same as a place that there is.
     pub(crate) fn at(&self) -> Place
         ensures { result.number ≡ self.now.place }
     {
         Place { number: self.place }
     }
 
-    // What it pays.
+    /// What it pays.
     pub fn cents(&self) -> u64
         ensures { result ≡ self.now.cents }
     {
         self.cents
     }
 
-    // Takes the order apart, so that its `drop` does not run.
+    /// Takes the order apart, so that its `drop` does not run.
     pub(crate) fn spent(self) -> Paid
         ensures { (result.place ≡ self.place) × (result.cents ≡ self.cents) }
     {
@@ -82,20 +82,20 @@ impl PayOrder {
     }
 }
 
-// What a release paid.
+/// What a release paid.
 #[derive(Clone, Copy, PartialEq, Eq, Debug)]
 pub struct Paid {
     pub place: u8,
     pub cents: u64,
 }
 
-// An order that is not taken in comes back.
+/// An order that is not taken in comes back.
 pub struct Returned {
     pub order: PayOrder,
 }
 
 impl Returned {
-    // The number of this refusal: the order is of another house, or for more than is on orders at its place.
+    /// The number of this refusal: the order is of another house, or for more than is on orders at its place.
     pub fn number(&self) -> u8
         ensures { result ≡ returned_number }
     {

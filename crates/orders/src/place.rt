@@ -1,4 +1,4 @@
-// The places of a market, counted from 1.
+//! The places of a market, counted from 1.
 ghost use Rattle.std.specs.Prelude.{◌≡◌, ◌+◌, ◌≤◌, true, false, MatchResult};
 ghost use Rattle.orders.specs.Limits.{place_limit};
 ghost use Rattle.orders.specs.Tills.{is_place};
@@ -7,14 +7,14 @@ ghost use Rattle.orders.specs.declared.till.refusal.TillRefusal.TheVariants.{NoP
 use crate::till::refusal::TillRefusal;
 use metering::PLACES;
 
-// A place that there is.
+/// A place that there is.
 #[derive(Clone, Copy)]
 pub(crate) struct Place {
     pub(crate) number: u8,
     ghost there: { (1 ≤ number) × (number ≤ place_limit) },
 }
 
-// The place with a number, where there is one.
+/// The place with a number, where there is one.
 impl TryFrom<u8> for Place {
     type Error = TillRefusal;
 
@@ -29,7 +29,7 @@ impl TryFrom<u8> for Place {
 }
 
 impl Place {
-    // Where it stands in a list of all places.
+    /// Where it stands in a list of all places.
     pub(crate) fn index(self) -> usize
         ensures { result + 1 ≡ self.number }
     {

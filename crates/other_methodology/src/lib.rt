@@ -1,4 +1,4 @@
-// A methodology unlike the house's two: no allowed revenue, five intervals, half of the losses allowed.
+//! A methodology unlike the house's two: no allowed revenue, five intervals, half of the losses allowed.
 #![tactic(auto)]
 
 ghost use Rattle.std.specs.Prelude.{◌≡◌, ◌+◌, ◌*◌, ◌/◌, ◌<◌, refl};
@@ -31,18 +31,18 @@ impl Methodology for Fifths {
 
     ghost supplied = { Prim.search rules };
 
-    // The day in five parts.
+    /// The day in five parts.
     fn interval_of(&self, block: usize) -> usize {
         1 + block % BLOCKS * Self::INTERVALS / BLOCKS
     }
 
-    // What was delivered, and half of what was lost.
+    /// What was delivered, and half of what was lost.
     fn allowed_supply(&self, sent: u64, delivered: u64, factor: u32) -> u64 {
         delivered + sent.saturating_sub(delivered) / 2
     }
 }
 
-// The number of the head that a block's energy goes to. The house's generic code answers it, as it stands: 2 for the first fifth of the day, 6 for the last.
+/// The number of the head that a block's energy goes to. The house's generic code answers it, as it stands: 2 for the first fifth of the day, 6 for the last.
 pub fn head_of_fifth(block: usize) -> usize
     ensures { block < block_count → result ≡ 2 + block * 5 / block_count }
 {

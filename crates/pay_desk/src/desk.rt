@@ -1,5 +1,5 @@
-// What a pay desk does with orders. Whoever has one in hand must see it released or held, and so each of these functions
-// ends with the order taken in by a house, or hands it back.
+//! What a pay desk does with orders. Whoever has one in hand must see it released or held, and so each of these functions
+//! ends with the order taken in by a house, or hands it back.
 ghost use Rattle.std.specs.Prelude.{◌≡◌};
 ghost use Rattle.house.specs.Shown.{shows};
 ghost use Rattle.pay_desk.specs.Desk.{PutsOff, Presents, Settles, Elsewhere};
@@ -10,18 +10,18 @@ use ledger::Refusal;
 use methodology::Methodology;
 use orders::{Paid, PayOrder, Returned};
 
-// What became of an order's cents.
+/// What became of an order's cents.
 #[derive(Clone, Copy, PartialEq, Eq, Debug)]
 pub enum Settled {
-    // They were paid.
+    /// They were paid.
     Released(Paid),
-    // They stand at the place again.
+    /// They stand at the place again.
     Held(Paid),
-    // Another house refused them, with this number, and then its own house held them.
+    /// Another house refused them, with this number, and then its own house held them.
     TurnedAway(u8, Paid),
 }
 
-// What an order pays.
+/// What an order pays.
 fn paid_by(order: &PayOrder) -> Paid
     ensures { (result.place ≡ order.now.place) × (result.cents ≡ order.now.cents) }
 {
@@ -31,7 +31,7 @@ fn paid_by(order: &PayOrder) -> Paid
     }
 }
 
-// Puts an order off: its own house holds it. Another house's is handed back.
+/// Puts an order off: its own house holds it. Another house's is handed back.
 pub fn put_off<B: Bank, M: Methodology>(
     house: &mut House<B, M>,
     order: PayOrder,
@@ -43,7 +43,7 @@ pub fn put_off<B: Bank, M: Methodology>(
     Ok(Settled::Held(paid))
 }
 
-// Presents an order for payment at a desk. Where it comes back, its owner holds it; one that neither knows is handed back.
+/// Presents an order for payment at a desk. Where it comes back, its owner holds it; one that neither knows is handed back.
 pub fn present<B: Bank, M: Methodology>(
     desk: &mut House<B, M>,
     owner: &mut House<B, M>,
@@ -63,7 +63,7 @@ pub fn present<B: Bank, M: Methodology>(
     }
 }
 
-// Draws an order on a place, and releases it if it is for so many cents at most; a greater one is put off.
+/// Draws an order on a place, and releases it if it is for so many cents at most; a greater one is put off.
 pub fn settle_one<B: Bank, M: Methodology>(
     house: &mut House<B, M>,
     place: u8,
@@ -82,7 +82,7 @@ pub fn settle_one<B: Bank, M: Methodology>(
     }
 }
 
-// Draws an order on its owner's place, and presents it at a desk.
+/// Draws an order on its owner's place, and presents it at a desk.
 pub fn settle_elsewhere<B: Bank, M: Methodology>(
     desk: &mut House<B, M>,
     owner: &mut House<B, M>,

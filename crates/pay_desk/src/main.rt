@@ -1,4 +1,4 @@
-// A pay desk: orders are drawn and paid, or put off, and one of another house is turned away. None of them can be lost.
+//! A pay desk: orders are drawn and paid, or put off, and one of another house is turned away. None of them can be lost.
 #![tactic(auto)]
 
 mod desk;
@@ -10,23 +10,23 @@ use anyhow::anyhow;
 use ledger::Refusal;
 use orders::Paid;
 
-// The serials of two houses.
+/// The serials of two houses.
 const HERE: u64 = 1;
 
 const THERE: u64 = 2;
 
-// The place of the station.
+/// The place of the station.
 const PLACE: u8 = 1;
 
-// Says what a house has done with so many cents of a place.
+/// Says what a house has done with so many cents of a place.
 fn tell(rt: &HostRuntime, serial: u64, done: &str, paid: Paid) -> anyhow::Result<()> {
     let Paid { place, cents } = paid;
     println!(rt; "house {serial}: {done} {cents} cents of place {place}")?;
     Ok(())
 }
 
-// Says what became of an order that a house drew and presented at a desk. By then no order is in hand: a line that cannot
-// be printed loses none.
+/// Says what became of an order that a house drew and presented at a desk. By then no order is in hand: a line that cannot
+/// be printed loses none.
 fn tell_settled(
     rt: &HostRuntime,
     desk: u64,

@@ -1,4 +1,4 @@
-// A market with one station, of 100 kW at 20,000 grains and 50,000 a kWh.
+//! A market with one station, of 100 kW at 20,000 grains and 50,000 a kWh.
 use agreements::TwoPart;
 use anyhow::anyhow;
 use banks::One;
@@ -7,17 +7,17 @@ use ledger::Refusal;
 use methodology::ThreeIntervals;
 use worked_figures::{agreement, sent, tariff, year};
 
-// No plainer: `worked_cases` has this market too, but stands above crates that this program has no use for.
+/// No plainer: `worked_cases` has this market too, but stands above crates that this program has no use for.
 pub type Market = House<One<TwoPart>, ThreeIntervals>;
 
-// Files a year and a tariff, and takes the reading: 5,500,000 grains are due.
+/// Files a year and a tariff, and takes the reading: 5,500,000 grains are due.
 fn meter_first(house: &mut Market) -> Result<(), Refusal> {
     house.year(&year())?;
     house.tariff(&tariff())?;
     house.meter(&sent())
 }
 
-// A house in its first month, with the reading taken. Its orders bear the serial.
+/// A house in its first month, with the reading taken. Its orders bear the serial.
 pub fn metered_house(serial: u64) -> anyhow::Result<Market> {
     let mut house: Market = House::new(One::new(agreement()), ThreeIntervals, serial);
     meter_first(&mut house).map_err(|_| anyhow!("the house refused a call"))?;

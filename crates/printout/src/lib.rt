@@ -1,4 +1,4 @@
-// What is printed of a performed list of calls: one line for each, numbered over the list.
+//! What is printed of a performed list of calls: one line for each, numbered over the list.
 #![tactic(auto)]
 
 pub mod line;

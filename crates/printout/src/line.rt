@@ -1,4 +1,4 @@
-// The lines.
+//! The lines.
 ghost use Rattle.std.specs.Prelude.{Some};
 ghost use Rattle.printout.specs.Text.{line_text, file_text};
 
@@ -8,18 +8,18 @@ use history::{Answer, Call};
 use orders::RETURNED;
 use std::fmt;
 
-// The line of a call that was made, or that named an order that was not there.
+/// The line of a call that was made, or that named an order that was not there.
 #[derive(Clone, Copy)]
 pub struct Line<'a> {
-    // Of the line, counted from 1.
+    /// Of the line, counted from 1.
     pub number: usize,
-    // How many draws were accepted up to here: the number of the order where this call drew one.
+    /// How many draws were accepted up to here: the number of the order where this call drew one.
     pub orders: usize,
     pub call: &'a Call,
     pub answer: &'a Answer,
 }
 
-// As `4 meter accepted place 1 dues 5500000`.
+/// As `4 meter accepted place 1 dues 5500000`.
 impl fmt::Display for Line<'_> {
     ghost output = { λ l. Some (line_text l.number l.orders l.call.now l.answer.now) };
 
@@ -46,7 +46,7 @@ impl fmt::Display for Line<'_> {
     }
 }
 
-// The line of a call that was not made, since the file of its reading was refused.
+/// The line of a call that was not made, since the file of its reading was refused.
 #[derive(Clone, Copy)]
 pub struct FileLine {
     pub number: usize,
@@ -54,7 +54,7 @@ pub struct FileLine {
     pub refusal: metering::Refusal,
 }
 
-// As `13 meter refused 3 detail 9`.
+/// As `13 meter refused 3 detail 9`.
 impl fmt::Display for FileLine {
     ghost output = { λ l. Some (file_text l.number l.verb l.refusal) };
 

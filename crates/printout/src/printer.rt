@@ -1,4 +1,4 @@
-// Numbering the lines of a list, and the orders that are drawn in it.
+//! Numbering the lines of a list, and the orders that are drawn in it.
 ghost use Rattle.std.specs.Prelude.{◌≡◌};
 ghost use Rattle.printout.specs.Counting.{next, orders_after};
 ghost use Rattle.printout.specs.Numbering.{NumberedAsNamed};
@@ -9,7 +9,7 @@ use history::{Answer, Call};
 use sheet::text_of;
 use std::io;
 
-// How many lines there were, and how many of their calls drew an order.
+/// How many lines there were, and how many of their calls drew an order.
 #[derive(Clone, Copy, PartialEq, Eq, Debug, Default)]
 pub struct Printer {
     lines: usize,
@@ -17,7 +17,7 @@ pub struct Printer {
 }
 
 impl Printer {
-    // Before the first line.
+    /// Before the first line.
     pub fn new() -> Printer
         ensures lines { result.lines ≡ 0 }
         ensures orders { result.orders ≡ 0 }
@@ -25,7 +25,7 @@ impl Printer {
         Printer::default()
     }
 
-    // Counts a line more, and answers its number.
+    /// Counts a line more, and answers its number.
     fn next_line(&mut self) -> usize
         ensures number { result ≡ next self.old.lines }
         ensures counted { self.new ≡ record { lines = result; orders = self.old.orders } }
@@ -34,7 +34,7 @@ impl Printer {
         self.lines
     }
 
-    // The next line: of a call and its answer.
+    /// The next line: of a call and its answer.
     pub fn line<'a>(&mut self, call: &'a Call, answer: &'a Answer) -> Line<'a>
         ensures number { result.number ≡ next self.old.lines }
         ensures orders { result.orders ≡ orders_after self.old.orders answer.now }
@@ -55,7 +55,7 @@ impl Printer {
         }
     }
 
-    // The next line: of a call that was not made, since the file of its reading was refused.
+    /// The next line: of a call that was not made, since the file of its reading was refused.
     pub fn file_line(&mut self, verb: Verb, refusal: metering::Refusal) -> FileLine
         ensures line { result ≡ record { number = next self.old.lines; verb = verb; refusal = refusal } }
         ensures counted { self.new ≡ record { lines = next self.old.lines; orders = self.old.orders } }
@@ -68,7 +68,7 @@ impl Printer {
         }
     }
 
-    // Prints the next line: of a call and its answer, and under an accepted closing its sheet.
+    /// Prints the next line: of a call and its answer, and under an accepted closing its sheet.
     pub fn print(&mut self, rt: &HostRuntime, call: &Call, answer: &Answer) -> io::Result<()>
         ensures { self.new ≡ record { lines = next self.old.lines; orders = orders_after self.old.orders answer.now } }
     {

@@ -1,4 +1,4 @@
-// Whom or what a call is about, as its line names it.
+//! Whom or what a call is about, as its line names it.
 ghost use Rattle.std.specs.Prelude.{◌≡◌, Some};
 ghost use Rattle.printout.specs.Words.{subject_of, subject_text};
 
@@ -7,17 +7,17 @@ use std::fmt;
 
 #[derive(Clone, Copy, PartialEq, Eq, Debug)]
 pub enum Subject {
-    // The market: there is nothing to name.
+    /// The market: there is nothing to name.
     Market,
     Place(u8),
     Licensee(u8),
-    // The order that the draw with this number made.
+    /// The order that the draw with this number made.
     Order(usize),
-    // The order with this number among those of other houses.
+    /// The order with this number among those of other houses.
     Other(usize),
 }
 
-// The subject of a call.
+/// The subject of a call.
 impl From<&Call> for Subject {
     ghost from_gives = { λ call subject. subject ≡ subject_of call.now };
 
@@ -32,7 +32,7 @@ impl From<&Call> for Subject {
     }
 }
 
-// As ` place 1`, with a blank before it, or nothing.
+/// As ` place 1`, with a blank before it, or nothing.
 impl fmt::Display for Subject {
     ghost output = { λ s. Some (subject_text s) };
 

@@ -1,4 +1,4 @@
-// What a call is called in its line.
+//! What a call is called in its line.
 ghost use Rattle.std.specs.Prelude.{◌≡◌, Some};
 ghost use Rattle.printout.specs.Words.{verb_of, word};
 
@@ -17,7 +17,7 @@ pub enum Verb {
     Hold,
 }
 
-// The verb of a call.
+/// The verb of a call.
 impl From<&Call> for Verb {
     ghost from_gives = { λ call verb. verb ≡ verb_of call.now };
 
@@ -35,7 +35,7 @@ impl From<&Call> for Verb {
     }
 }
 
-// As its word.
+/// As its word.
 impl fmt::Display for Verb {
     ghost output = { λ v. Some (word v) };
 

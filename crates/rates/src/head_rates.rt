@@ -1,15 +1,15 @@
-// The rates of a head.
+//! The rates of a head.
 ghost use Rattle.std.specs.Prelude.{◌≤◌};
 ghost use Rattle.methodology.specs.Limits.{demand_rate_limit, factor_limit};
 
-// What a head is billed, and what that comes from; grains per kW or per kWh, and ppm.
+/// What a head is billed, and what that comes from; grains per kW or per kWh, and ppm.
 #[derive(Clone, Copy)]
 pub struct HeadRates {
-    // What licensees are billed.
+    /// What licensees are billed.
     pub published: u64,
-    // The same before the adjustment for an earlier period.
+    /// The same before the adjustment for an earlier period.
     pub base: u64,
-    // The filed loss factor of its interval; 0 for a demand head.
+    /// The filed loss factor of its interval; 0 for a demand head.
     pub factor: u32,
     ghost priced: { published ≤ demand_rate_limit },
     ghost based: { base ≤ demand_rate_limit },

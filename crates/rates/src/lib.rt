@@ -1,4 +1,4 @@
-// What a tariff and a year put in force: rates by head, and yearly allowed revenues.
+//! What a tariff and a year put in force: rates by head, and yearly allowed revenues.
 #![tactic(auto)]
 
 pub mod head_rates;

@@ -1,12 +1,12 @@
-// The allowed revenues of a year.
+//! The allowed revenues of a year.
 ghost use Rattle.std.specs.Prelude.{◌≡◌, ℕ, ◌≤◌, ◌<◌, length, get_or};
 ghost use Rattle.methodology.specs.Limits.{revenue_limit};
 ghost use Rattle.rates.specs.Limits.{yearly_limit};
 
-// Most allowed revenues that a market has.
+/// Most allowed revenues that a market has.
 pub const REVENUES: usize = 3;
 
-// What each company may collect in the year, in cents; 0 for those that the market has not.
+/// What each company may collect in the year, in cents; 0 for those that the market has not.
 #[derive(Clone, Copy)]
 pub struct Revenues {
     pub yearly: [u64; REVENUES],
@@ -15,7 +15,7 @@ pub struct Revenues {
 }
 
 impl Revenues {
-    // A year that none has filed.
+    /// A year that none has filed.
     pub fn none() -> Revenues
         ensures { (j : ℕ) → get_or result.yearly j 0 ≡ 0 }
     {

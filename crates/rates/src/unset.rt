@@ -1,4 +1,4 @@
-// Rates that no tariff has set.
+//! Rates that no tariff has set.
 ghost use Rattle.std.specs.Prelude.{◌≡◌, ℕ};
 ghost use Rattle.rates.specs.Heads.{unset, rates_at};
 
@@ -7,7 +7,7 @@ use crate::published::{HEADS, Rates};
 use methodology::Shape;
 
 impl HeadRates {
-    // A head's rates that no tariff has set.
+    /// A head's rates that no tariff has set.
     pub fn unset() -> HeadRates
         ensures { result ≡ unset }
     {
@@ -20,7 +20,7 @@ impl HeadRates {
 }
 
 impl Rates {
-    // Rates that no tariff has set.
+    /// Rates that no tariff has set.
     pub fn unset(shape: Shape) -> Rates
         ensures heads { result.shape ≡ shape }
         ensures none { (k : ℕ) → rates_at result k ≡ unset }

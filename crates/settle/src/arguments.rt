@@ -1,4 +1,4 @@
-// What the words behind the program's name ask for.
+/// What the words behind the program's name ask for.
 pub const USAGE: &str = "usage:
   settle run JOURNAL       perform a journal's calls; print what came of each, and the books
   settle check JOURNAL     say whether a journal can be read and its meter files opened
@@ -7,13 +7,13 @@ pub const USAGE: &str = "usage:
 
 #[derive(Clone, Copy)]
 pub enum Command<'a> {
-    // The path of a journal.
+    /// The path of a journal.
     Run(&'a str),
     Check(&'a str),
     Help,
 }
 
-// None where the words are no command.
+/// None where the words are no command.
 pub fn asked<'a>(words: &'a [String]) -> Option<Command<'a>> {
     let [verb, paths @ ..] = words else {
         return Some(Command::Help);

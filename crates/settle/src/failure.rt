@@ -1,17 +1,17 @@
-// Why the program ends with status 1.
+//! Why the program ends with status 1.
 use std::alloc::{AllocError, AllocFailed};
 use std::io;
 
 #[derive(Drop)]
 pub enum Failure {
-    // What there is to say has been printed.
+    /// What there is to say has been printed.
     Told,
-    // The arguments or printing failed, or memory ran out.
+    /// The arguments or printing failed, or memory ran out.
     Io(io::Error),
 }
 
 impl Failure {
-    // Says what has not been said; where that fails too, there is nobody to say it to.
+    /// Says what has not been said; where that fails too, there is nobody to say it to.
     pub fn tell(&self, rt: &HostRuntime) {
         if let Failure::Io(error) = self {
             let _ = eprintln!(rt; "settle: {error}");

@@ -1,4 +1,4 @@
-// settle: reads an operator's journal, performs its calls and prints what came of each.
+//! settle: reads an operator's journal, performs its calls and prints what came of each.
 #![tactic(auto)]
 
 mod arguments;
@@ -47,8 +47,8 @@ fn start(rt: &HostRuntime) -> Result<(), Failure> {
     }
 }
 
-// Performs a journal's calls and prints what came of each. The whole journal is read and its meter files are opened
-// before the first call.
+/// Performs a journal's calls and prints what came of each. The whole journal is read and its meter files are opened
+/// before the first call.
 fn run(rt: &HostRuntime, source: &Source<'_>) -> Result<(), Failure> {
     let Journal {
         market,
@@ -63,7 +63,7 @@ fn run(rt: &HostRuntime, source: &Source<'_>) -> Result<(), Failure> {
     }
 }
 
-// Says whether a journal can be read and its meter files opened. No call is performed.
+/// Says whether a journal can be read and its meter files opened. No call is performed.
 fn check(rt: &HostRuntime, source: &Source<'_>) -> Result<(), Failure> {
     let journal = source.journal(rt)?;
     let list = source.open_all(rt, &journal.entries)?;

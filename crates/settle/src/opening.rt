@@ -1,4 +1,4 @@
-// Opening what a journal's entries name, so that each is a call or the refusal of its meter file.
+//! Opening what a journal's entries name, so that each is a call or the refusal of its meter file.
 use crate::failure::Failure;
 use crate::source::Source;
 use history::{Call, Named, Spending};
@@ -7,15 +7,15 @@ use meter_files::read_file;
 use metering::{Reading, Refusal};
 use printout::Verb;
 
-// A meter file that was refused: there is no call.
+/// A meter file that was refused: there is no call.
 #[derive(Clone, Copy)]
 pub struct RefusedFile {
     pub verb: Verb,
     pub refusal: Refusal,
 }
 
-// The calls in their order; and for each entry of the journal the file that was refused in place of a call, if one was.
-// Two tables side by side: the calls are performed as a slice, and a refused file makes none.
+/// The calls in their order; and for each entry of the journal the file that was refused in place of a call, if one was.
+/// Two tables side by side: the calls are performed as a slice, and a refused file makes none.
 #[derive(Drop)]
 pub struct List {
     pub calls: Vec<Call>,
@@ -23,7 +23,7 @@ pub struct List {
 }
 
 impl Source<'_> {
-    // Opens every entry, or says of the first meter file that cannot be opened why not.
+    /// Opens every entry, or says of the first meter file that cannot be opened why not.
     pub fn open_all(&self, rt: &HostRuntime, entries: &[Entry<'_>]) -> Result<List, Failure> {
         let mut list = List {
             calls: Vec::with_capacity(rt.alloc(), entries.len())?,
@@ -41,7 +41,7 @@ impl Source<'_> {
         Ok(list)
     }
 
-    // The call of an entry, or its meter file's refusal. A failure is another matter: the file cannot be opened.
+    /// The call of an entry, or its meter file's refusal. A failure is another matter: the file cannot be opened.
     fn open(
         &self,
         rt: &HostRuntime,
@@ -71,7 +71,7 @@ impl Source<'_> {
     }
 }
 
-// The reading of a meter file, or the file's refusal.
+/// The reading of a meter file, or the file's refusal.
 fn reading_of(bytes: &[u8], verb: Verb) -> Result<Reading, RefusedFile> {
     let mut reading = Reading::empty();
     read_file(bytes, &mut reading).map_err(|refusal| RefusedFile { verb, refusal })?;

@@ -1,4 +1,4 @@
-// Printing what came of a list of calls: a line for each entry, the sheets of the closings, and at the end the books.
+//! Printing what came of a list of calls: a line for each entry, the sheets of the closings, and at the end the books.
 use crate::failure::Failure;
 use crate::opening::List;
 use history::Performance;
@@ -7,7 +7,7 @@ use printout::Printer;
 use statement::statement;
 use stations::Stations;
 
-// A journal's list, what was performed of it, and how many places the market has.
+/// A journal's list, what was performed of it, and how many places the market has.
 #[derive(Drop)]
 pub struct Outcome<'a, M> {
     pub list: &'a List,
@@ -16,13 +16,13 @@ pub struct Outcome<'a, M> {
 }
 
 impl<'a, M: Methodology> Outcome<'a, M> {
-    // Prints the lines and then the books.
+    /// Prints the lines and then the books.
     pub fn print(&self, rt: &HostRuntime) -> Result<(), Failure> {
         self.print_lines(rt)?;
         self.print_books(rt)
     }
 
-    // Prints the line of each entry, in the order of the journal.
+    /// Prints the line of each entry, in the order of the journal.
     fn print_lines(&self, rt: &HostRuntime) -> Result<(), Failure> {
         let mut printer = Printer::new();
         let mut performed = self.list.calls.iter().zip(self.performance.answers.iter());
@@ -37,7 +37,7 @@ impl<'a, M: Methodology> Outcome<'a, M> {
         Ok(())
     }
 
-    // Prints the books: the account over the closed months, and the money of each of the market's places.
+    /// Prints the books: the account over the closed months, and the money of each of the market's places.
     fn print_books(&self, rt: &HostRuntime) -> Result<(), Failure> {
         let Some(books) = statement(&self.list.calls, self.performance) else {
             eprintln!(rt; "settle: there are too many calls to be added up")?;

@@ -1,4 +1,4 @@
-// Performing a journal's calls.
+//! Performing a journal's calls.
 use crate::failure::Failure;
 use crate::opening::List;
 use crate::printing::Outcome;
@@ -7,7 +7,7 @@ use history::NewHouse;
 use methodology::Methodology;
 use stations::Stations;
 
-// Performs the calls, prints what came of them, and has the orders that are still in hand held.
+/// Performs the calls, prints what came of them, and has the orders that are still in hand held.
 pub fn perform_list<M: Methodology + Drop>(
     rt: &HostRuntime,
     market: M,

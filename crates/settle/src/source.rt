@@ -1,4 +1,4 @@
-// A journal's file: its path and its text, and messages about its lines.
+//! A journal's file: its path and its text, and messages about its lines.
 use crate::failure::Failure;
 use journal::{Journal, Unread, parse_journal};
 use std::alloc::AllocError;
@@ -12,8 +12,8 @@ pub struct Source<'a> {
 }
 
 impl<'a> Source<'a> {
-    // The file at a path, or a message.
-    // `meterfile` says this of each of its files by one function, which also tells refusals: a shared one would be no plainer.
+    /// The file at a path, or a message.
+    /// `meterfile` says this of each of its files by one function, which also tells refusals: a shared one would be no plainer.
     pub fn read(rt: &HostRuntime, path: &'a str) -> Result<Source<'a>, Failure> {
         match fs::read_to_string(rt, path) {
             Ok(text) => Ok(Source { path, text }),
@@ -24,7 +24,7 @@ impl<'a> Source<'a> {
         }
     }
 
-    // The journal, or a message on the first line that cannot be read.
+    /// The journal, or a message on the first line that cannot be read.
     pub fn journal(&self, rt: &HostRuntime) -> Result<Journal<'_>, Failure> {
         match parse_journal(rt.alloc(), self.text.as_bytes()) {
             Ok(journal) => Ok(journal),
@@ -37,7 +37,7 @@ impl<'a> Source<'a> {
         }
     }
 
-    // The bytes of a file that a line names, whose path is relative to the journal's own folder; or a message.
+    /// The bytes of a file that a line names, whose path is relative to the journal's own folder; or a message.
     pub fn read_beside(
         &self,
         rt: &HostRuntime,
@@ -60,8 +60,8 @@ impl<'a> Source<'a> {
         }
     }
 
-    // Prints the line that a message is about, under the message.
-    // `meterfile` has it too: a shared one would be a library's function with a contract, longer than these two.
+    /// Prints the line that a message is about, under the message.
+    /// `meterfile` has it too: a shared one would be a library's function with a contract, longer than these two.
     fn show_line(&self, rt: &HostRuntime, line: usize) -> Failure {
         if let Some(wrong) = self.text.lines().nth(line.saturating_sub(1))
             && let Err(error) = eprintln!(rt; "    {wrong}")

@@ -1,4 +1,4 @@
-// The text of a sheet.
+//! The text of a sheet.
 #![tactic(auto)]
 
 mod lines;

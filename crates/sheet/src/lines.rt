@@ -1,4 +1,4 @@
-// The lines of a sheet, each in fixed memory that has room for the longest of its kind.
+//! The lines of a sheet, each in fixed memory that has room for the longest of its kind.
 ghost use Rattle.std.specs.Prelude.{◌≡◌, ◌+◌, ◌≤◌, ◌++◌, codes, length};
 ghost use Rattle.methodology.specs.Names.{name};
 ghost use Rattle.arrayvec.specs.ArrayString.{array_string_len};
@@ -10,15 +10,15 @@ use arrayvec::ArrayString;
 use itoa::{Buffer, Integer};
 use methodology::Head;
 
-// Most digits of a number of 64 bits.
+/// Most digits of a number of 64 bits.
 const DIGITS: usize = 20;
 
-// Most bytes of a number behind a blank, and of one with a sign.
+/// Most bytes of a number behind a blank, and of one with a sign.
 const FIGURE: usize = 1 + DIGITS;
 
 const SIGNED_FIGURE: usize = 1 + FIGURE;
 
-// Most bytes of each line: the word that it begins with, its figures, the line feed.
+/// Most bytes of each line: the word that it begins with, its figures, the line feed.
 pub const MONTH_LINE: usize = 5 + FIGURE + 1;
 
 pub const HEAD_LINE: usize = 1 + DIGITS + 3 * FIGURE + SIGNED_FIGURE + 1;
@@ -27,7 +27,7 @@ pub const LICENSEE_LINE: usize = 8 + 3 * FIGURE + 1;
 
 pub const MARGIN_LINE: usize = 6 + SIGNED_FIGURE + 1;
 
-// Writes a number behind a blank.
+/// Writes a number behind a blank.
 fn push_figure<const CAP: usize, I: Integer>(line: &mut ArrayString<CAP>, n: I)
     requires { array_string_len line.old + 1 + I.MAX_STR_LEN ≤ CAP }
     ensures text { line.new.bytes ≡ line.old.bytes ++ (codes " " ++ I.text n) }
@@ -38,7 +38,7 @@ fn push_figure<const CAP: usize, I: Integer>(line: &mut ArrayString<CAP>, n: I)
     line.push_str(digits.format(n));
 }
 
-// The line of one figure behind the word that it begins with.
+/// The line of one figure behind the word that it begins with.
 fn line_of<const CAP: usize, I: Integer>(word: &str, figure: I) -> ArrayString<CAP>
     requires { length word.now + 1 + I.MAX_STR_LEN + 1 ≤ CAP }
     ensures { result.bytes ≡ word.now ++ ((codes " " ++ I.text figure) ++ line_feed) }
@@ -50,7 +50,7 @@ fn line_of<const CAP: usize, I: Integer>(word: &str, figure: I) -> ArrayString<C
     line
 }
 
-// The line of the month.
+/// The line of the month.
 #[tactic(auto, unfolding(crate::specs::Text::month_line))]
 pub fn month_line(month: u8) -> ArrayString<MONTH_LINE>
     ensures { result.bytes ≡ month_line month }
@@ -58,8 +58,8 @@ pub fn month_line(month: u8) -> ArrayString<MONTH_LINE>
     line_of("month", month)
 }
 
-// Writes the name of a head, as its `Display` does. A `write!` of it has a contract for `Ok` alone, and none that says when
-// it is `Ok`; a sheet's text is always written.
+/// Writes the name of a head, as its `Display` does. A `write!` of it has a contract for `Ok` alone, and none that says when
+/// it is `Ok`; a sheet's text is always written.
 fn push_name(line: &mut ArrayString<HEAD_LINE>, head: Head)
     requires { line.old.bytes ≡ codes "" }
     ensures text { line.new.bytes ≡ name head }
@@ -78,7 +78,7 @@ fn push_name(line: &mut ArrayString<HEAD_LINE>, head: Head)
     }
 }
 
-// The line of a head.
+/// The line of a head.
 #[tactic(auto, unfolding(crate::specs::Text::head_line))]
 pub fn head_line(head: Head, line: &HeadLine) -> ArrayString<HEAD_LINE>
     ensures { result.bytes ≡ head_line head line.now }
@@ -93,8 +93,8 @@ pub fn head_line(head: Head, line: &HeadLine) -> ArrayString<HEAD_LINE>
     text
 }
 
-// The line of a licensee, or nothing where it has none.
-// Written out, as that of a head is: its figures are of several types, of which a slice can hold but one.
+/// The line of a licensee, or nothing where it has none.
+/// Written out, as that of a head is: its figures are of several types, of which a slice can hold but one.
 #[tactic(auto, unfolding(crate::specs::Text::licensee_line))]
 pub fn licensee_line(number: usize, billed: &Option<Billed>) -> ArrayString<LICENSEE_LINE>
     ensures { result.bytes ≡ licensee_line number billed.now }
@@ -110,7 +110,7 @@ pub fn licensee_line(number: usize, billed: &Option<Billed>) -> ArrayString<LICE
     line
 }
 
-// The line of the margin.
+/// The line of the margin.
 #[tactic(auto, unfolding(crate::specs::Text::margin_line))]
 pub fn margin_line(margin: i64) -> ArrayString<MARGIN_LINE>
     ensures { result.bytes ≡ margin_line margin }

@@ -1,4 +1,4 @@
-// The text of a sheet, in fixed memory that has room for the longest.
+//! The text of a sheet, in fixed memory that has room for the longest.
 ghost use Rattle.std.specs.Prelude.{◌≡◌, ◌+◌, ◌*◌, ◌≤◌, ◌++◌, length};
 ghost use Rattle.methodology.specs.Limits.{head_limit};
 ghost use Rattle.methodology.specs.Heads.{heads_of};
@@ -15,13 +15,13 @@ use accounts::{LICENSEES, Sheet};
 use arrayvec::ArrayString;
 use rates::HEADS;
 
-// Most bytes of a sheet's text.
+/// Most bytes of a sheet's text.
 pub const TEXT_LIMIT: usize = MONTH_LINE
     + HEADS * HEAD_LINE
     + LICENSEES * LICENSEE_LINE
     + MARGIN_LINE;
 
-// Writes the lines of the heads.
+/// Writes the lines of the heads.
 fn push_heads(text: &mut ArrayString<TEXT_LIMIT>, sheet: &Sheet)
     requires { array_string_len text.old ≤ month_limit }
     ensures text { text.new.bytes ≡ text.old.bytes ++ lines (head_text sheet.now) (heads_of sheet.now.shape) }
@@ -32,7 +32,7 @@ fn push_heads(text: &mut ArrayString<TEXT_LIMIT>, sheet: &Sheet)
     }
 }
 
-// Writes the lines of the licensees that have one.
+/// Writes the lines of the licensees that have one.
 fn push_licensees(text: &mut ArrayString<TEXT_LIMIT>, sheet: &Sheet)
     requires { array_string_len text.old ≤ month_limit + head_limit * line_limit }
     ensures text { text.new.bytes ≡ text.old.bytes ++ lines (licensee_text sheet.now) licensee_limit }
@@ -43,7 +43,7 @@ fn push_licensees(text: &mut ArrayString<TEXT_LIMIT>, sheet: &Sheet)
     }
 }
 
-// The text of a sheet.
+/// The text of a sheet.
 #[tactic(auto, unfolding(crate::specs::Text::sheet_text))]
 pub fn text_of(sheet: &Sheet) -> ArrayString<TEXT_LIMIT>
     ensures text { result.bytes ≡ sheet_text sheet.now }

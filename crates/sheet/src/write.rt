@@ -1,4 +1,4 @@
-// Writing a sheet's text into a caller's buffer.
+//! Writing a sheet's text into a caller's buffer.
 ghost use Rattle.std.specs.Prelude.{◌≤◌, length, IfOk};
 ghost use Rattle.sheet.specs.Limits.{text_limit};
 ghost use Rattle.sheet.specs.Text.{sheet_text};
@@ -8,9 +8,9 @@ use crate::text::text_of;
 use accounts::Sheet;
 use metering::Refusal;
 
-// Writes a sheet's text to the start of the buffer and answers its length, or leaves the buffer where it is too short.
-// A buffer of `TEXT_LIMIT` bytes is always long enough. `meter_files` ends a file so too: one function for the two would be
-// public in a crate below both, and be no plainer than these lines.
+/// Writes a sheet's text to the start of the buffer and answers its length, or leaves the buffer where it is too short.
+/// A buffer of `TEXT_LIMIT` bytes is always long enough. `meter_files` ends a file so too: one function for the two would be
+/// public in a crate below both, and be no plainer than these lines.
 pub fn write_sheet(sheet: &Sheet, buffer: &mut [u8]) -> Result<usize, Refusal>
     ensures value { Writes (sheet_text sheet.now) buffer.old result buffer.new }
     ensures fits { IfOk result (λ n. n ≤ length buffer.old) }

@@ -1,4 +1,4 @@
-// The statement at the end of a list of calls: every term of the account and both its sums, and the money of each place.
+//! The statement at the end of a list of calls: every term of the account and both its sums, and the money of each place.
 #![tactic(auto)]
 
 pub mod account;

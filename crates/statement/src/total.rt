@@ -1,8 +1,8 @@
-// Sums over a few of anything.
+//! Sums over a few of anything.
 ghost use Rattle.std.specs.Prelude.{◌≡◌, ℕ, ◌^◌, ◌≤◌, length};
 ghost use Rattle.std.specs.List.{sum_by};
 
-// What a few items amount to together. There are at most eight, as many as a market has licensees.
+/// What a few items amount to together. There are at most eight, as many as a market has licensees.
 #[derive(Clone, Copy)]
 pub struct Total {
     pub sum: u128,
@@ -10,7 +10,7 @@ pub struct Total {
 }
 
 impl Total {
-    // What the items amount to.
+    /// What the items amount to.
     pub fn of<T, F: Fn(&T) -> u64>(items: &[T], amount: F) -> Total
         requires few { length items.now ≤ 8 }
         requires callable { F.IsAlwaysCallable amount }

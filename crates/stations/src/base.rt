@@ -1,11 +1,11 @@
-// What may stand at the bottom of a station.
+//! What may stand at the bottom of a station.
 ghost use Rattle.stations.specs.Layers.{base_meaning};
 ghost use Rattle.stations.specs.Layering.{base_lawful};
 
 use agreements::{Agreement, Dues, Fault, Quota, TwoPart};
 use metering::Reading;
 
-// Each method has an arm for each kind: one that gave out a `dyn` value for either would hide which contract it has.
+/// Each method has an arm for each kind: one that gave out a `dyn` value for either would hide which contract it has.
 #[derive(Clone, Copy)]
 pub enum Base {
     TwoPart(TwoPart),

@@ -1,4 +1,4 @@
-// The figures that a station's bottom is made from, as an operator files them.
+//! The figures that a station's bottom is made from, as an operator files them.
 ghost use Rattle.agreements.specs.Making.{Makes};
 ghost use Rattle.stations.specs.Figures.{figures_fit, figured};
 ghost use Rattle.stations.specs.Layers.{base_meaning};
@@ -8,13 +8,13 @@ use agreements::{OverLimit, Quota, TwoPart};
 
 #[derive(Clone, Copy, PartialEq, Eq, Debug)]
 pub enum Figures {
-    // Contracted kW, grains per kW, grains per kWh.
+    /// Contracted kW, grains per kW, grains per kWh.
     TwoPart {
         contracted: u64,
         capacity: u64,
         energy: u64,
     },
-    // The quota in kWh, and two prices in grains per kWh.
+    /// The quota in kWh, and two prices in grains per kWh.
     Quota {
         quota: u64,
         first: u64,
@@ -22,7 +22,7 @@ pub enum Figures {
     },
 }
 
-// The agreement that figures stand for.
+/// The agreement that figures stand for.
 impl TryFrom<Figures> for Base {
     type Error = OverLimit;
 

@@ -1,4 +1,4 @@
-// An agreement and a bank that nothing below was written for: they go in by the traits alone.
+//! An agreement and a bank that nothing below was written for: they go in by the traits alone.
 #![tactic(auto)]
 
 pub mod retainer;

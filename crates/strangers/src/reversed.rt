@@ -1,4 +1,4 @@
-// A bank with its places told from the last to the first.
+//! A bank with its places told from the last to the first.
 ghost use Rattle.std.specs.Prelude.{◌≡◌, ◌+◌, ◌-◌, reverse, length};
 ghost use Rattle.std.proofs.Common.{arith};
 ghost use Rattle.std.proofs.lemmas.List.{length-reverse};
@@ -22,7 +22,7 @@ impl<B> Reversed<B> {
 }
 
 impl<B: Bank> Reversed<B> {
-    // The number that the bank itself gives a place; 0 past the last one, which the bank refuses, so that no test is made twice.
+    /// The number that the bank itself gives a place; 0 past the last one, which the bank refuses, so that no test is made twice.
     fn turned(&self, place: u8) -> u8
         ensures { result ≡ length (B.Bank.row self.now.bank) + 1 - place }
     {

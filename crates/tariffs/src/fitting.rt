@@ -1,4 +1,4 @@
-// The tests of what is filed: counts, and the limits of each figure.
+//! The tests of what is filed: counts, and the limits of each figure.
 ghost use Rattle.std.specs.Prelude.{◌≡◌, ◌≤◌};
 ghost use Rattle.std.specs.List.{list_all};
 ghost use Rattle.metering.specs.Verdict.{between};
@@ -14,15 +14,15 @@ use crate::limits::{
 use crate::row::Row;
 use methodology::Shape;
 
-// Whether a figure lies between low and high. Two bounds and no `RangeInclusive`: that has a third part, whether it has been
-// gone through, which each contract below would have to speak of.
+/// Whether a figure lies between low and high. Two bounds and no `RangeInclusive`: that has a third part, whether it has been
+/// gone through, which each contract below would have to speak of.
 fn lies_between(low: u64, high: u64, figure: u64) -> bool
     ensures { result ≡ between low high figure }
 {
     (low..=high).contains(&figure)
 }
 
-// Whether each figure lies between low and high.
+/// Whether each figure lies between low and high.
 fn all_between(low: u64, high: u64, figures: &[u64]) -> bool
     ensures { result ≡ list_all (between low high) figures.now }
 {
@@ -32,7 +32,7 @@ fn all_between(low: u64, high: u64, figures: &[u64]) -> bool
 }
 
 impl Row {
-    // Whether there are as many figures as wanted, each between low and high.
+    /// Whether there are as many figures as wanted, each between low and high.
     pub(crate) fn fits(&self, low: u64, high: u64, wanted: usize) -> bool
         requires { wanted ≤ head_limit }
         ensures { result ≡ row_fits low high wanted self.now }
@@ -42,7 +42,7 @@ impl Row {
 }
 
 impl Filing {
-    // Whether the rows fit the heads, and their figures keep their limits.
+    /// Whether the rows fit the heads, and their figures keep their limits.
     #[tactic(auto, using(std::proofs::lemmas::Bool::Decides::nat_tests), unfolding(crate::specs::Filing::rows_fit))]
     pub(crate) fn rows_fit(&self, shape: Shape) -> bool
         ensures { result ≡ rows_fit shape self.now }
@@ -55,7 +55,7 @@ impl Filing {
                 .fits(0, COEFFICIENT_LIMIT, shape.intervals)
     }
 
-    // Whether the figures that are filed once keep their limits.
+    /// Whether the figures that are filed once keep their limits.
     #[tactic(auto, using(std::proofs::lemmas::Bool::Decides::nat_tests), unfolding(crate::specs::Filing::singles_fit))]
     pub(crate) fn singles_fit(&self) -> bool
         ensures { result ≡ singles_fit self.now }

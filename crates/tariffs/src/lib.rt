@@ -1,4 +1,4 @@
-// Filing: a year's allowed revenues, and the tariffs that set the rates.
+//! Filing: a year's allowed revenues, and the tariffs that set the rates.
 #![tactic(auto)]
 
 mod filed;

@@ -1,4 +1,4 @@
-// Publishing a tariff.
+//! Publishing a tariff.
 ghost use Rattle.tariffs.specs.Publishing.{Publishes};
 
 use crate::filed::Filed;
@@ -8,7 +8,7 @@ use crate::refusal::TariffFault;
 use methodology::Shape;
 use rates::{HEADS, HeadRates, Rates};
 
-// The rates of a tariff, from what is filed and from each head's differences in an earlier period, grains.
+/// The rates of a tariff, from what is filed and from each head's differences in an earlier period, grains.
 pub fn publish(shape: Shape, filing: &Filing, earlier: &[i64; HEADS]) -> Result<Rates, TariffFault>
     ensures { Publishes shape filing.now earlier.now result }
 {
@@ -16,7 +16,7 @@ pub fn publish(shape: Shape, filing: &Filing, earlier: &[i64; HEADS]) -> Result<
 }
 
 impl Filed {
-    // The rates of all heads, or the lowest head one of whose tests fails.
+    /// The rates of all heads, or the lowest head one of whose tests fails.
     fn rates(&self, earlier: &[i64; HEADS]) -> Result<Rates, TariffFault>
         ensures { Publishes self.now.shape self.now.filing earlier.now result }
     {

@@ -1,4 +1,4 @@
-// The rates of a head. Heads are counted from 1.
+//! The rates of a head. Heads are counted from 1.
 ghost use Rattle.std.specs.Prelude.{◌≡◌, ◌+◌, ◌-◌, ◌*◌, ◌^◌, ◌<◌, ◌≤◌, ◌&&◌, nat_le, pos, unsigned_abs};
 ghost use Rattle.methodology.specs.Heads.{heads_of};
 ghost use Rattle.methodology.specs.Limits.{factor_limit};
@@ -13,10 +13,10 @@ use arith::{adjustment, scale_ppm, scale_thousandths};
 use methodology::ENERGY_RATE_LIMIT;
 use rates::HeadRates;
 
-// The number of the first interval's head, in a market with no revenues: it comes after generation.
+/// The number of the first interval's head, in a market with no revenues: it comes after generation.
 const FIRST_INTERVAL: usize = 2;
 
-// A cost in cents over a quantity, grains per unit.
+/// A cost in cents over a quantity, grains per unit.
 fn per_cost(cents: u64, quantity: u64) -> u64
     requires { (cents ≤ cost_limit) × (0 < quantity) }
     ensures value { result ≡ per_cost cents quantity }
@@ -25,14 +25,14 @@ fn per_cost(cents: u64, quantity: u64) -> u64
     GRAINS_PER_CENT * cents / quantity
 }
 
-// Whether a base rate, the differences per unit and a published rate keep a limit.
+/// Whether a base rate, the differences per unit and a published rate keep a limit.
 fn keeps_limit(limit: u64, base: u64, each: i64, published: u64) -> bool
     ensures { result ≡ keeps limit base each (pos published) }
 {
     base <= limit && each.unsigned_abs() <= limit && published <= limit
 }
 
-// A head of a tariff that is filed well.
+/// A head of a tariff that is filed well.
 #[derive(Clone, Copy)]
 pub(crate) struct FiledHead<'a> {
     pub(crate) filed: &'a Filed,
@@ -41,14 +41,14 @@ pub(crate) struct FiledHead<'a> {
 }
 
 impl Filed {
-    // The number of the first interval's head.
+    /// The number of the first interval's head.
     fn first_interval(&self) -> usize
         ensures { result ≡ first_interval self.now.shape }
     {
         FIRST_INTERVAL + self.shape.revenues
     }
 
-    // What a kWh that is sent in costs, grains.
+    /// What a kWh that is sent in costs, grains.
     fn generation_energy(&self) -> u64
         ensures value { result ≡ generation_energy self.now.filing }
         ensures most { result ≤ grains_per_cent * cost_limit }
@@ -58,7 +58,7 @@ impl Filed {
 }
 
 impl FiledHead<'_> {
-    // Whether the head is billed by demand.
+    /// Whether the head is billed by demand.
     fn is_demand(&self) -> bool
         ensures value { result ≡ demand_head self.now.filed.now.shape self.now.number }
         ensures order { result ≡ nat_le self.now.number (1 + self.now.filed.now.shape.revenues) }
@@ -66,7 +66,7 @@ impl FiledHead<'_> {
         self.filed.shape.head(self.number).is_demand()
     }
 
-    // The place of its interval in the rows by interval; 0 for a demand head.
+    /// The place of its interval in the rows by interval; 0 for a demand head.
     fn interval_place(&self) -> usize
         ensures value { result ≡ self.now.number - first_interval self.now.filed.now.shape }
         ensures inside { result < self.now.filed.now.shape.intervals }
@@ -74,8 +74,8 @@ impl FiledHead<'_> {
         self.number.saturating_sub(self.filed.first_interval())
     }
 
-    // The filed loss factor of its interval, ppm; 0 for a demand head.
-    // What is filed well keeps its limits, and so does what comes of it: every cast of these rates fits.
+    /// The filed loss factor of its interval, ppm; 0 for a demand head.
+    /// What is filed well keeps its limits, and so does what comes of it: every cast of these rates fits.
     fn factor(&self) -> u32
         ensures value { result ≡ filed_factor self.now.filed.now.shape self.now.filed.now.filing self.now.number }
         ensures most { result ≤ factor_limit }
@@ -87,7 +87,7 @@ impl FiledHead<'_> {
         }
     }
 
-    // The coefficient of its interval, thousandths.
+    /// The coefficient of its interval, thousandths.
     fn coefficient(&self) -> u32
         ensures value { result ≡ at_interval self.now.filed.now.shape self.now.filed.now.filing.coefficients.figures self.now.number }
         ensures most { result ≤ coefficient_limit }
@@ -95,7 +95,7 @@ impl FiledHead<'_> {
         self.filed.filing.coefficients.figure(self.interval_place()) as u32
     }
 
-    // The rate before the adjustment, grains.
+    /// The rate before the adjustment, grains.
     fn base_rate(&self) -> u64
         ensures { result ≡ base_rate self.now.filed.now.shape self.now.filed.now.filing self.now.number }
     {
@@ -107,7 +107,7 @@ impl FiledHead<'_> {
         scale_thousandths(with_losses, self.coefficient()) as u64
     }
 
-    // The quantity that the head is forecast to bill, kW or kWh.
+    /// The quantity that the head is forecast to bill, kW or kWh.
     fn forecast(&self) -> u64
         ensures value { result ≡ forecast self.now.filed.now.shape self.now.filed.now.filing self.now.number }
         ensures some { 0 < result }
@@ -119,7 +119,7 @@ impl FiledHead<'_> {
         }
     }
 
-    // The differences of an earlier period, per unit of the forecast, and the same with interest.
+    /// The differences of an earlier period, per unit of the forecast, and the same with interest.
     fn adjusted(&self, differences: i64) -> (i64, i128)
         ensures each { result.0 ≡ per_unit self.now.filed.now.shape self.now.filed.now.filing differences self.now.number }
         ensures whole { result.1 ≡ adjustment_at self.now.filed.now.shape self.now.filed.now.filing differences self.now.number }
@@ -129,7 +129,7 @@ impl FiledHead<'_> {
         adjustment(differences, self.forecast(), interest).unwrap()
     }
 
-    // Whether generation energy keeps its limit, which is tested with the first interval.
+    /// Whether generation energy keeps its limit, which is tested with the first interval.
     #[tactic(auto, using(std::proofs::lemmas::Bool::Decides::nat_tests), unfolding(crate::specs::Publishing::energy_fits))]
     fn energy_fits(&self) -> bool
         ensures { result ≡ energy_fits self.now.filed.now.shape self.now.filed.now.filing self.now.number }
@@ -138,7 +138,7 @@ impl FiledHead<'_> {
             || self.filed.generation_energy() <= ENERGY_RATE_LIMIT
     }
 
-    // Whether its figures pass all its tests.
+    /// Whether its figures pass all its tests.
     fn passes(&self, base: u64, each: i64, published: u64) -> bool
         ensures { result ≡ (energy_fits self.now.filed.now.shape self.now.filed.now.filing self.now.number && keeps (limit_at self.now.filed.now.shape self.now.number) base each (pos published)) }
     {
@@ -146,7 +146,7 @@ impl FiledHead<'_> {
         self.energy_fits() && keeps_limit(limit, base, each, published)
     }
 
-    // Its rates, or its fault where one of its tests fails.
+    /// Its rates, or its fault where one of its tests fails.
     pub(crate) fn rates(&self, differences: i64) -> Result<HeadRates, TariffFault>
         ensures { RatesHead self.now.filed.now.shape self.now.filed.now.filing differences self.now.number result }
     {

@@ -1,4 +1,4 @@
-// Filing the allowed revenues of a year.
+//! Filing the allowed revenues of a year.
 ghost use Rattle.tariffs.specs.Years.{FilesYear};
 
 use crate::limits::YEARLY_LIMIT;
@@ -8,7 +8,7 @@ use methodology::Shape;
 use rates::{REVENUES, Revenues};
 use std::array;
 
-// The revenues that the market's companies may collect in the year.
+/// The revenues that the market's companies may collect in the year.
 pub fn file_year(shape: Shape, filed: &Row) -> Result<Revenues, YearRefused>
     ensures { FilesYear shape filed.now result }
 {

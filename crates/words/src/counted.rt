@@ -1,4 +1,4 @@
-// A count with its noun, as `1 station` or `27 calls`.
+//! A count with its noun, as `1 station` or `27 calls`.
 ghost use Rattle.std.specs.Prelude.{Some};
 ghost use Rattle.words.specs.Messages.{counted_text};
 
@@ -7,7 +7,7 @@ use std::fmt;
 #[derive(Clone, Copy)]
 pub struct Counted {
     pub count: usize,
-    // for one of them
+    /// for one of them
     pub noun: &'static str,
 }
 

@@ -1,15 +1,15 @@
-// Figures: words of decimal digits.
+//! Figures: words of decimal digits.
 ghost use Rattle.std.specs.Prelude.{◌≡◌, true, false, MatchOption};
 ghost use Rattle.words.specs.Figures.{is_figure, figure_of, number_of};
 
-// Whether a word is a figure.
+/// Whether a word is a figure.
 pub fn is_figure(word: &[u8]) -> bool
     ensures { result ≡ is_figure word.now }
 {
     !word.is_empty() && word.iter().all(u8::is_ascii_digit)
 }
 
-// The digits of a figure.
+/// The digits of a figure.
 fn digits(word: &[u8]) -> Option<&str>
     ensures { MatchOption result (is_figure word.now ≡ false) (λ text. (is_figure word.now ≡ true) × (text.now ≡ word.now)) }
 {
@@ -20,14 +20,14 @@ fn digits(word: &[u8]) -> Option<&str>
     }
 }
 
-// The number that a figure writes; one of more than 32 bits counts as the largest.
+/// The number that a figure writes; one of more than 32 bits counts as the largest.
 pub fn figure(word: &[u8]) -> Option<u32>
     ensures { result ≡ figure_of word.now }
 {
     Some(digits(word)?.parse().unwrap_or(u32::MAX))
 }
 
-// The number that a figure writes, if 64 bits hold it.
+/// The number that a figure writes, if 64 bits hold it.
 pub fn number(word: &[u8]) -> Option<u64>
     ensures { result ≡ number_of word.now }
 {

@@ -1,4 +1,4 @@
-// Lines, words and figures in the texts that people write, and messages about them.
+//! Lines, words and figures in the texts that people write, and messages about them.
 #![tactic(auto)]
 
 pub mod counted;

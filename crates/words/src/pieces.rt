@@ -1,9 +1,9 @@
-// Lines and words in a text.
+//! Lines and words in a text.
 ghost use Rattle.std.specs.Prelude.{◌≡◌, ◌∷◌, [], ◌<◌, ℕ, Bool, length, MatchOption};
 ghost use Rattle.std.specs.Str.{bytes_eq};
 ghost use Rattle.words.specs.Pieces.{blank, Tests, piece, after, first_line, behind_line, bare, first_word, behind_word};
 
-// Cuts a text at the first byte that ends a piece: the piece, and what is left from that byte on. Either may be empty.
+/// Cuts a text at the first byte that ends a piece: the piece, and what is left from that byte on. Either may be empty.
 fn cut<F: FnMut(&u8) -> bool>(text: &[u8], ends: F) -> (&[u8], &[u8])
     requires { F.IsAlwaysCallable ends }
     ensures front { (p : ℕ → Bool) → Tests F.FnMut p ends → result.0.now ≡ piece p text.now }
@@ -13,14 +13,14 @@ fn cut<F: FnMut(&u8) -> bool>(text: &[u8], ends: F) -> (&[u8], &[u8])
     text.split_at(end.unwrap_or(text.len()))
 }
 
-// A space, a tab or a carriage return.
+/// A space, a tab or a carriage return.
 fn is_blank(byte: &u8) -> bool
     ensures { result ≡ blank byte.now }
 {
     matches!(*byte, b' ' | b'\t' | b'\r')
 }
 
-// The first line of a text, and what is behind its line feed. No Option: a text always has a first line, which may be empty.
+/// The first line of a text, and what is behind its line feed. No Option: a text always has a first line, which may be empty.
 pub fn next_line(text: &[u8]) -> (&[u8], &[u8])
     ensures front { result.0.now ≡ first_line text.now }
     ensures back { result.1.now ≡ behind_line text.now }
@@ -32,14 +32,14 @@ pub fn next_line(text: &[u8]) -> (&[u8], &[u8])
     }
 }
 
-// A line without its comment.
+/// A line without its comment.
 pub fn without_comment(line: &[u8]) -> &[u8]
     ensures { result.now ≡ bare line.now }
 {
     cut(line, |byte| *byte == b'#').0
 }
 
-// The first word of a line, and what is behind it.
+/// The first word of a line, and what is behind it.
 pub fn next_word(line: &[u8]) -> Option<(&[u8], &[u8])>
     ensures { MatchOption result (first_word line.now ≡ []) (λ p. (0 < length p.0.now) × (p.0.now ≡ first_word line.now) × (p.1.now ≡ behind_word line.now)) }
 {
@@ -52,7 +52,7 @@ pub fn next_word(line: &[u8]) -> Option<(&[u8], &[u8])>
     }
 }
 
-// Whether a word is this one: `word == b"close".as_slice()` in its place would be no plainer at each of a dozen calls.
+/// Whether a word is this one: `word == b"close".as_slice()` in its place would be no plainer at each of a dozen calls.
 pub fn is_word(word: &[u8], name: &[u8]) -> bool
     ensures { result ≡ bytes_eq word.now name.now }
 {

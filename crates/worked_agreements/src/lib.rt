@@ -1,4 +1,4 @@
-// The worked case of a quota: 25 kWh at 60,000 grains, the rest at 40,000; 20 kWh in block 2 and 30 kWh in block 12.
+//! The worked case of a quota: 25 kWh at 60,000 grains, the rest at 40,000; 20 kWh in block 2 and 30 kWh in block 12.
 #![tactic(auto)]
 
 ghost use Rattle.std.specs.Prelude.{◌≡◌};
@@ -7,7 +7,7 @@ ghost use Rattle.worked_agreements.specs.Worked.{worked_energies, worked_dues, W
 use agreements::{Agreement, Dues, Quota};
 use metering::{BLOCKS, Figures, Reading, make_reading};
 
-// The reading of the case.
+/// The reading of the case.
 fn worked_reading() -> Reading
     ensures { result.blocks ≡ worked_energies }
 {
@@ -25,7 +25,7 @@ fn worked_reading() -> Reading
     reading
 }
 
-// Its dues, as the code gives them: 1,200,000 grains in block 2 and 1,300,000 in block 12.
+/// Its dues, as the code gives them: 1,200,000 grains in block 2 and 1,300,000 in block 12.
 pub fn worked_quota() -> Dues
     ensures value { result ≡ worked_dues }
     ensures law { WorkedQuota }

@@ -1,4 +1,4 @@
-// The worked cases: figures that are known, as theorems about the definitions, and the first month through the house.
+//! The worked cases: figures that are known, as theorems about the definitions, and the first month through the house.
 #![tactic(auto)]
 
 pub mod month;

@@ -1,4 +1,4 @@
-// The first month of a market with one station and one licensee.
+//! The first month of a market with one station and one licensee.
 ghost use Rattle.std.specs.Prelude.{◌≡◌};
 ghost use Rattle.sheet.specs.Text.{sheet_text};
 ghost use Rattle.worked_cases.specs.FirstMonth.{first_text, FirstRun};
@@ -12,17 +12,17 @@ use house::House;
 use methodology::{Methodology, ThreeIntervals};
 use worked_figures::{agreement, sent, taken, tariff, year};
 
-// Three intervals, and one station under a two-part agreement.
+/// Three intervals, and one station under a two-part agreement.
 pub type Market = House<One<TwoPart>, ThreeIntervals>;
 
-// The house after its first month, and the month's sheet.
+/// The house after its first month, and the month's sheet.
 #[derive(Drop)]
 pub struct FirstMonth {
     pub house: Market,
     pub sheet: Sheet,
 }
 
-// Files a year and a tariff, takes one reading from each side, and closes the month.
+/// Files a year and a tariff, takes one reading from each side, and closes the month.
 pub fn first_month(serial: u64) -> FirstMonth
     ensures text { sheet_text result.sheet ≡ first_text }
     ensures run { FirstRun serial result.sheet (shown result.house) }

@@ -1,4 +1,4 @@
-// The figures of the worked month: a year, a tariff, an agreement, and what two meters measured.
+//! The figures of the worked month: a year, a tariff, an agreement, and what two meters measured.
 #![tactic(auto)]
 
 pub mod filed;

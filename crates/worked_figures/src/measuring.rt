@@ -1,18 +1,18 @@
-// What meters measured in the worked month.
+//! What meters measured in the worked month.
 ghost use Rattle.std.specs.Prelude.{slice_index};
 ghost use Rattle.metering.specs.declared.reading.Kind.TheVariants.{Generator, Licensee};
 ghost use Rattle.worked_figures.specs.FirstCalls.{FirstSent, FirstTaken, Reads, in_blocks};
 
 use metering::{BLOCKS, Figures, Kind, Reading, Refusal, make_reading};
 
-// One block in each interval of three: 01:00 is off-peak, 06:00 day and 19:00 peak.
+/// One block in each interval of three: 01:00 is off-peak, 06:00 day and 19:00 peak.
 const NIGHT: usize = 2;
 
 const MORNING: usize = 12;
 
 const EVENING: usize = 38;
 
-// What a meter measured: kW, and kWh by night, in the morning and in the evening.
+/// What a meter measured: kW, and kWh by night, in the morning and in the evening.
 pub fn measured(kind: Kind, number: u8, demand: u32, energies: [u32; 3]) -> Result<Reading, Refusal>
     ensures { Reads kind number demand (in_blocks (slice_index energies 0) (slice_index energies 1) (slice_index energies 2)) result }
 {
@@ -31,14 +31,14 @@ pub fn measured(kind: Kind, number: u8, demand: u32, energies: [u32; 3]) -> Resu
     Ok(reading)
 }
 
-// The generator's month.
+/// The generator's month.
 pub fn sent() -> Reading
     ensures { FirstSent result }
 {
     measured(Kind::Generator, 1, 100, [20, 30, 20]).unwrap()
 }
 
-// The licensee's month.
+/// The licensee's month.
 pub fn taken() -> Reading
     ensures { FirstTaken result }
 {

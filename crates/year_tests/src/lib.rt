@@ -1,4 +1,4 @@
-// Examples for the house over two years, in both methodologies.
+//! Examples for the house over two years, in both methodologies.
 #![tactic(auto)]
 
 #[cfg(test)]

@@ -1,4 +1,4 @@
-// What a market files in two years, and the calls that are made of its house.
+//! What a market files in two years, and the calls that are made of its house.
 use banks::One;
 use history::{Answer, Call, Named, NewHouse, Spending};
 use methodology::Methodology;
@@ -6,7 +6,7 @@ use std::alloc::{AllocError, Global};
 use tariffs::{Filing, Row};
 use worked_figures::{agreement, sent, taken, tariff, year};
 
-// The revenues of each year, and a tariff, of which the fourth has an interest of a tenth.
+/// The revenues of each year, and a tariff, of which the fourth has an interest of a tenth.
 #[derive(Drop)]
 pub struct Plan {
     pub revenues: [Row; 2],
@@ -36,7 +36,7 @@ pub fn two() -> Plan {
     }
 }
 
-// What is done after a month with all that stands, and which draw it is.
+/// What is done after a month with all that stands, and which draw it is.
 fn payment_after(month: usize) -> Option<(usize, Spending)> {
     match month {
         3 => Some((1, Spending::Release)),
@@ -47,7 +47,7 @@ fn payment_after(month: usize) -> Option<(usize, Spending)> {
     }
 }
 
-// A tariff, and the six months under it.
+/// A tariff, and the six months under it.
 pub fn half_year(calls: &mut Vec<Call>, filing: Filing, half: u8) -> Result<(), AllocError> {
     calls.push(Call::Tariff(filing))?;
     for month in 1..7 {
@@ -75,7 +75,7 @@ pub fn two_years(calls: &mut Vec<Call>, plan: &Plan) -> Result<(), AllocError> {
     half_year(calls, with_interest, 3)
 }
 
-// What is answered to the calls of a house over one agreement: 100 kW at 20,000 grains, and 50,000 a kWh.
+/// What is answered to the calls of a house over one agreement: 100 kW at 20,000 grains, and 50,000 a kWh.
 pub fn answers_to<M: Methodology + Drop>(
     heap: Global,
     methodology: M,

@@ -1,11 +1,11 @@
-// Sums over the answers and the sheets of two years, in grains unless another unit is named.
+//! Sums over the answers and the sheets of two years, in grains unless another unit is named.
 ghost use Rattle.std.specs.Prelude.{◌<◌};
 
 use accounts::Sheet;
 use history::Answer;
 use std::alloc::{AllocError, Global};
 
-// The sheets of all closed months.
+/// The sheets of all closed months.
 pub fn sheets_of(heap: Global, answers: &[Answer]) -> Result<Vec<Sheet>, AllocError> {
     let mut sheets = Vec::new(heap);
     for sheet in answers.iter().filter_map(Answer::sheet) {
@@ -14,11 +14,11 @@ pub fn sheets_of(heap: Global, answers: &[Answer]) -> Result<Vec<Sheet>, AllocEr
     Ok(sheets)
 }
 
-// How many kW the licensee takes each month.
+/// How many kW the licensee takes each month.
 const DEMAND: i128 = 90;
 
-// What the months spread under a revenue, grains: each month's rate over the demand, and what it carries on less what the
-// month before carried on. A loop: what is carried goes along from one sheet to the next.
+/// What the months spread under a revenue, grains: each month's rate over the demand, and what it carries on less what the
+/// month before carried on. A loop: what is carried goes along from one sheet to the next.
 pub fn spread(sheets: &[Sheet], head: usize, before: u64) -> i128
     requires { head < 6 }
 {
@@ -34,7 +34,7 @@ pub fn spread(sheets: &[Sheet], head: usize, before: u64) -> i128
     sum
 }
 
-// A licensee's bill, grains.
+/// A licensee's bill, grains.
 fn billed(sheet: &Sheet) -> i128 {
     sheet
         .licensees
@@ -44,7 +44,7 @@ fn billed(sheet: &Sheet) -> i128 {
         .fold(0, |sum, bill| sum.wrapping_add(bill))
 }
 
-// The account over all sheets, grains: the bills and the margins of each.
+/// The account over all sheets, grains: the bills and the margins of each.
 pub fn accounted(sheets: &[Sheet]) -> i128 {
     sheets
         .iter()
@@ -52,7 +52,7 @@ pub fn accounted(sheets: &[Sheet]) -> i128 {
         .fold(0, |sum, more| sum.wrapping_add(more))
 }
 
-// What stands on the last sheet, grains: the fractions of the licensees, the balances and the carries of the heads.
+/// What stands on the last sheet, grains: the fractions of the licensees, the balances and the carries of the heads.
 pub fn standing(last: &Sheet) -> i128 {
     let fractions = last
         .licensees
@@ -68,7 +68,7 @@ pub fn standing(last: &Sheet) -> i128 {
         .fold(0, |sum, more| sum.wrapping_add(more))
 }
 
-// The sum of what each answer counts for.
+/// The sum of what each answer counts for.
 fn total<F: Fn(&Answer) -> u64>(answers: &[Answer], counted: F) -> i128
     requires { (f : _) (a : _) → F.FnMut.pre f a }
 {
@@ -78,7 +78,7 @@ fn total<F: Fn(&Answer) -> u64>(answers: &[Answer], counted: F) -> i128
         .fold(0, |sum, more| sum.wrapping_add(i128::from(more)))
 }
 
-// The dues of all readings, grains.
+/// The dues of all readings, grains.
 pub fn dues(answers: &[Answer]) -> i128 {
     total(answers, |answer| match answer {
         Answer::Metered(grains) => *grains,
@@ -86,7 +86,7 @@ pub fn dues(answers: &[Answer]) -> i128 {
     })
 }
 
-// What the released orders paid, cents.
+/// What the released orders paid, cents.
 pub fn payments(answers: &[Answer]) -> i128 {
     total(answers, |answer| match answer {
         Answer::Paid(_, cents) => *cents,

@@ -1,4 +1,4 @@
-// Two years in each methodology: four tariffs and twenty-four months, with an order drawn now and then.
+//! Two years in each methodology: four tariffs and twenty-four months, with an order drawn now and then.
 ghost use Rattle.std.specs.Prelude.{◌<◌};
 
 use crate::plan::{Plan, answers_to, half_year, three, two, two_years};
@@ -13,8 +13,8 @@ use std::process::Abort;
 use std::test::Fail;
 use tariffs::{Filing, Row};
 
-// What is to come of a head: its rate under the first two tariffs, under the third and under the fourth, and its balance
-// after six months.
+/// What is to come of a head: its rate under the first two tariffs, under the third and under the fourth, and its balance
+/// after six months.
 #[derive(Clone, Copy)]
 struct ExpectedHead {
     rates: [u64; 3],
@@ -25,7 +25,7 @@ fn head(rates: [u64; 3], balance: i64) -> ExpectedHead {
     ExpectedHead { rates, balance }
 }
 
-// What is to come of all heads, and the margin of each month.
+/// What is to come of all heads, and the margin of each month.
 #[derive(Clone, Copy)]
 struct Expected {
     heads: [ExpectedHead; 6],
@@ -33,7 +33,7 @@ struct Expected {
 }
 
 impl Expected {
-    // Six months under a tariff: their numbers, margins and published rates. The first two tariffs have the same rates.
+    /// Six months under a tariff: their numbers, margins and published rates. The first two tariffs have the same rates.
     fn check_period(
         &self,
         rt: &impl Abort,
@@ -53,7 +53,7 @@ impl Expected {
         Ok(())
     }
 
-    // What the first period leaves in the transactions account.
+    /// What the first period leaves in the transactions account.
     fn check_balances(&self, rt: &impl Abort, sheet: &Sheet) -> Result<(), Fail> {
         for (line, head) in sheet.heads.iter().zip(&self.heads) {
             assert_eq!(rt; line.balance, head.balance);
@@ -62,7 +62,7 @@ impl Expected {
     }
 }
 
-// The months of a year together give each company what it was allowed. Its head comes after that of generation.
+/// The months of a year together give each company what it was allowed. Its head comes after that of generation.
 fn check_revenues(
     rt: &impl Abort,
     sheets: &[Sheet],
@@ -82,7 +82,7 @@ fn check_revenues(
     Ok(())
 }
 
-// Bills, fractions, balances, carries and margins are dues and allowed revenues.
+/// Bills, fractions, balances, carries and margins are dues and allowed revenues.
 fn check_account(
     rt: &impl Abort,
     answers: &[Answer],
@@ -127,9 +127,9 @@ fn walk<M: Methodology + Drop>(
     check_account(rt, &answers, &sheets, plan)
 }
 
-// Period 1 brings G dues of 6 * 2,000,000, of which 30 are carried on, for 6 * 90 * 20,000 that were billed: D is
-// 1,199,970, over peaks of 540 that is 2,222 more. Period 2 brings the same, and with a tenth more that is 2,444.
-// E2 brings -840,009 in either period, over 114 kWh that is -7,369, and with a tenth more -8,106.
+/// Period 1 brings G dues of 6 * 2,000,000, of which 30 are carried on, for 6 * 90 * 20,000 that were billed: D is
+/// 1,199,970, over peaks of 540 that is 2,222 more. Period 2 brings the same, and with a tenth more that is 2,444.
+/// E2 brings -840,009 in either period, over 114 kWh that is -7,369, and with a tenth more -8,106.
 #[test]
 fn two_years_of_three_intervals(rt: HostRuntime) -> Result<(), Fail> {
     let expected = Expected {
@@ -146,8 +146,8 @@ fn two_years_of_three_intervals(rt: HostRuntime) -> Result<(), Fail> {
     walk(&rt, rt.alloc(), ThreeIntervals, &three(), &expected)
 }
 
-// Of 20 kWh at E1 and 50 at E2 the allowed supply is 19 * 1.05 and 46 * 1.05, so 19 and 48 kWh: a month's margin is 50,000
-// for each of three. E1 brings 6 * 19 * (50,000 - 63,000) in period 1, over 114 kWh that is -13,000.
+/// Of 20 kWh at E1 and 50 at E2 the allowed supply is 19 * 1.05 and 46 * 1.05, so 19 and 48 kWh: a month's margin is 50,000
+/// for each of three. E1 brings 6 * 19 * (50,000 - 63,000) in period 1, over 114 kWh that is -13,000.
 #[test]
 fn two_years_of_two_intervals(rt: HostRuntime) -> Result<(), Fail> {
     let expected = Expected {
@@ -164,7 +164,7 @@ fn two_years_of_two_intervals(rt: HostRuntime) -> Result<(), Fail> {
     walk(&rt, rt.alloc(), TwoIntervals, &two(), &expected)
 }
 
-// In the third tariff E2 is to give back 7,369 a kWh, of a base rate of 0.
+/// In the third tariff E2 is to give back 7,369 a kWh, of a base rate of 0.
 #[test]
 fn a_rate_below_zero_is_not_published(rt: HostRuntime) -> Result<(), Fail> {
     let plan = three();

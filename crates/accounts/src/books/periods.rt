@@ -1,4 +1,4 @@
-// Books without money, and the tariff periods of an account.
+//! Books without money, and the tariff periods of an account.
 ghost use Rattle.std.specs.Prelude.{◌≡◌};
 ghost use Rattle.accounts.specs.Books.{Unused, AccountBegun, PeriodBegun, earlier};
 
@@ -8,7 +8,7 @@ use crate::delivery::LICENSEES;
 use rates::HEADS;
 
 impl Books {
-    // Books without money.
+    /// Books without money.
     pub fn new() -> Books
         ensures { Unused result }
     {
@@ -24,7 +24,7 @@ impl Books {
         }
     }
 
-    // Ends a tariff period and begins the next one.
+    /// Ends a tariff period and begins the next one.
     pub fn begin_period(&mut self)
         ensures { PeriodBegun self.old self.new }
     {
@@ -34,8 +34,8 @@ impl Books {
         };
     }
 
-    // By head, what a tariff that is filed now adjusts for: the differences of the period before this one,
-    // which is two before the period that the tariff begins.
+    /// By head, what a tariff that is filed now adjusts for: the differences of the period before this one,
+    /// which is two before the period that the tariff begins.
     pub fn earlier(&self) -> [i64; HEADS]
         ensures { result ≡ earlier self.now }
     {
@@ -44,7 +44,7 @@ impl Books {
 }
 
 impl Account {
-    // The account in the next period.
+    /// The account in the next period.
     fn begun(self) -> Account
         ensures { AccountBegun self result }
     {

@@ -1,4 +1,4 @@
-// Readings are added to a month.
+//! Readings are added to a month.
 ghost use Rattle.std.specs.Prelude.{◌≡◌, ℕ, ◌+◌, ◌<◌, ◌≤◌, false, length, MatchResult, slice_index};
 ghost use Rattle.metering.specs.Limits.{block_count};
 ghost use Rattle.methodology.specs.Limits.{head_limit};
@@ -20,8 +20,8 @@ use methodology::Methodology;
 use rates::HEADS;
 
 impl Month {
-    // Adds a generator's reading with its dues, or leaves the month as it was.
-    // The methodology stays an argument beside the reading and the dues: a struct of them would be made for one call, and hold no fact.
+    /// Adds a generator's reading with its dues, or leaves the month as it was.
+    /// The methodology stays an argument beside the reading and the dues: a struct of them would be made for one call, and hold no fact.
     pub fn add_reading<M: Methodology>(
         &mut self,
         m: &M,
@@ -42,7 +42,7 @@ impl Month {
         Ok(())
     }
 
-    // Adds a licensee's reading, or leaves the month as it was.
+    /// Adds a licensee's reading, or leaves the month as it was.
     pub fn add_delivery<M: Methodology>(&mut self, m: &M, reading: &Reading) -> Result<(), Unadded>
         ensures answered { result ≡ delivery_answer self.old reading.now }
         ensures after { MatchResult result (λ _. Delivered (rules_of M.shape (M.meaning m.now)) self.old reading.now self.new) (λ _. self.new ≡ self.old) }
@@ -54,7 +54,7 @@ impl Month {
         Ok(())
     }
 
-    // The month with a generator's reading.
+    /// The month with a generator's reading.
     fn with_reading<M: Methodology>(&self, m: &M, reading: &Reading, dues: &Dues) -> Month
         requires unread { read_at self.now reading.now.number ≡ false }
         requires moderate { (capacity_due dues.now ≤ due_limit) × (block_sum dues.now ≤ due_limit) }
@@ -70,7 +70,7 @@ impl Month {
         }
     }
 
-    // Its income by head, and the dues on top of it.
+    /// Its income by head, and the dues on top of it.
     fn income_with<M: Methodology>(&self, m: &M, dues: &Dues) -> [u64; HEADS]
         requires { (capacity_due dues.now ≤ due_limit) × (block_sum dues.now ≤ due_limit) }
         ensures value { (k : ℕ) → k < head_limit → slice_index result k ≡ slice_index self.now.income k + under M.shape.revenues (M.meaning m.now).interval (capacity_due dues.now) 0 dues.now.blocks k }
@@ -79,14 +79,14 @@ impl Month {
         added(&self.income, &by_head(m, dues.capacity, 0, &dues.blocks))
     }
 
-    // Its energy sent in by head, and the reading's on top of it.
+    /// Its energy sent in by head, and the reading's on top of it.
     fn sent_with<M: Methodology>(&self, m: &M, reading: &Reading) -> [u64; HEADS]
         ensures { (k : ℕ) → k < head_limit → slice_index result k ≡ slice_index self.now.sent k + under M.shape.revenues (M.meaning m.now).interval 0 0 reading.now.blocks k }
     {
         added(&self.sent, &by_head(m, 0, 0, &widened(&reading.blocks)))
     }
 
-    // The month with a licensee's reading.
+    /// The month with a licensee's reading.
     fn with_delivery<M: Methodology>(&self, m: &M, reading: &Reading) -> Month
         requires { (reading.now.number ≤ licensee_limit) × (delivered_at self.now reading.now.number ≡ false) }
         ensures { Delivered (rules_of M.shape (M.meaning m.now)) self.now reading.now result }

@@ -1,4 +1,4 @@
-// A sheet to lend to a closing.
+//! A sheet to lend to a closing.
 ghost use Rattle.accounts.specs.Sheets.{Unfilled};
 
 use crate::delivery::LICENSEES;
@@ -7,7 +7,7 @@ use methodology::Shape;
 use rates::HEADS;
 
 impl Sheet {
-    // A sheet that no closing has filled. Its text is month 0, a line of zeros for each head of the shape, and margin 0.
+    /// A sheet that no closing has filled. Its text is month 0, a line of zeros for each head of the shape, and margin 0.
     pub fn empty(shape: Shape) -> Sheet
         ensures { Unfilled shape result }
     {

@@ -1,4 +1,4 @@
-// Making an index layer, and its answers.
+//! Making an index layer, and its answers.
 ghost use Rattle.std.specs.Prelude.{◌≡◌};
 ghost use Rattle.agreements.specs.Indexes.{counted, scaled, index_dues, indexed, above};
 ghost use Rattle.agreements.specs.Indexing.{capped, lawful_indexed};
@@ -11,7 +11,7 @@ use crate::limits::{DUE_LIMIT, FACTOR_LIMIT, WHOLE_FACTOR};
 use metering::Reading;
 
 impl Factor {
-    // The factor that a number counts as: itself, or 1,000,000 where it is no factor.
+    /// The factor that a number counts as: itself, or 1,000,000 where it is no factor.
     pub fn new(ppm: u64) -> Factor
         ensures { result.ppm ≡ counted ppm }
     {
@@ -22,7 +22,7 @@ impl Factor {
         }
     }
 
-    // A due under the factor, or the greatest number where it is more: that is past the ceiling all the same.
+    /// A due under the factor, or the greatest number where it is more: that is past the ceiling all the same.
     fn scale(self, due: u64) -> u64
         ensures { result ≡ capped (scaled self.ppm due) }
     {
@@ -32,7 +32,7 @@ impl Factor {
 }
 
 impl<A> Index<A> {
-    // A layer over the agreement, with what the number counts as for its factor.
+    /// A layer over the agreement, with what the number counts as for its factor.
     pub fn new(below: A, factor: u64) -> Index<A>
         ensures { (result.below ≡ below) × (result.factor.ppm ≡ counted factor) }
     {
@@ -43,14 +43,14 @@ impl<A> Index<A> {
     }
 }
 
-// The number of the layer above one: the count stops at 255.
+/// The number of the layer above one: the count stops at 255.
 pub fn layer_above(layer: u8) -> u8
     ensures { result ≡ above layer }
 {
     layer.saturating_add(1)
 }
 
-// The dues under the factor, or the fault of the layer where they would pass the ceiling.
+/// The dues under the factor, or the fault of the layer where they would pass the ceiling.
 pub fn indexed_dues(dues: &Dues, factor: Factor, layer: u8) -> Result<Dues, Fault>
     ensures { result ≡ index_dues layer factor.ppm dues.now }
 {
@@ -77,7 +77,7 @@ impl<A: Agreement> Agreement for Index<A> {
         layer_above(self.below.layer())
     }
 
-    // The layer below is tested first.
+    /// The layer below is tested first.
     fn ask(&self, reading: &Reading, table: &mut Dues) -> Result<(), Fault> {
         let mut below = Dues::empty();
         self.below.ask(reading, &mut below)?;
@@ -85,7 +85,7 @@ impl<A: Agreement> Agreement for Index<A> {
         Ok(())
     }
 
-    // The layer below is booked only once this layer has admitted the reading.
+    /// The layer below is booked only once this layer has admitted the reading.
     fn book(&mut self, reading: &Reading, table: &mut Dues) -> Result<(), Fault> {
         self.ask(reading, table)?;
         self.below.book(reading, &mut Dues::empty())

@@ -1,4 +1,4 @@
-// The list's answers.
+//! The list's answers.
 ghost use Rattle.std.specs.Prelude.{◌≡◌, ◌+◌, ◌<◌, ◌≤◌, ◌⊎◌, map, length, MatchResult};
 ghost use Rattle.std.proofs.Common.{arith};
 ghost use Rattle.std.proofs.lemmas.List.{length-map};
@@ -11,7 +11,7 @@ use agreements::{Agreement, Dues};
 use metering::{Reading, index_of};
 
 impl<T> Listed<T> {
-    // Where the agreement of a place stands in the list.
+    /// Where the agreement of a place stands in the list.
     fn index_of(&self, place: u8) -> Result<usize, BankRefusal>
         ensures { MatchResult result (λ i. (i + 1 ≡ place) × (place ≤ length self.now.list.items)) (λ e. ((place ≡ 0) ⊎ (length self.now.list.items < place)) × (e ≡ BankRefusal.NoPlace)) }
     {

@@ -1,4 +1,4 @@
-// Making a list of agreements, place by place.
+//! Making a list of agreements, place by place.
 ghost use Rattle.std.specs.Prelude.{◌≡◌, []};
 ghost use Rattle.banks.specs.Placing.{Places};
 
@@ -6,17 +6,17 @@ use super::Listed;
 use metering::PLACES;
 use std::alloc::Global;
 
-// Why an agreement finds no place. It is handed back.
+/// Why an agreement finds no place. It is handed back.
 #[derive(Drop)]
 pub enum Unplaced<T> {
-    // Every place is taken.
+    /// Every place is taken.
     Full(T),
-    // There is no memory for one place more.
+    /// There is no memory for one place more.
     NoMemory(T),
 }
 
 impl<T> Listed<T> {
-    // A list with no place.
+    /// A list with no place.
     pub fn new(heap: Global) -> Listed<T>
         ensures { result.list.items ≡ [] }
     {
@@ -25,7 +25,7 @@ impl<T> Listed<T> {
         }
     }
 
-    // Puts an agreement at the next place.
+    /// Puts an agreement at the next place.
     pub fn push(&mut self, agreement: T) -> Result<(), Unplaced<T>>
         ensures { Places self.old.list.items agreement result self.new.list.items }
     {

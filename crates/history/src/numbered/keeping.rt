@@ -1,4 +1,4 @@
-// Taking orders out by their numbers, and putting them back.
+//! Taking orders out by their numbers, and putting them back.
 ghost use Rattle.std.specs.Prelude.{◌≡◌, ◌<◌, ◌≤◌, [], ◌∷◌, ◌++◌, length, IfOk, Some, Ok, Err, MatchOption, ◌≢◌};
 ghost use Rattle.std.specs.Option.{option_to_list};
 ghost use Rattle.history.specs.Slots.{slots_of, slot, room_in, without, in_slots, Leaves, Adds};
@@ -9,7 +9,7 @@ use metering::index_of;
 use orders::PayOrder;
 use std::alloc::{AllocError, Global};
 
-// Whether an order is there that bears a serial.
+/// Whether an order is there that bears a serial.
 fn slot_bears(slot: &Option<PayOrder>, serial: u64) -> bool
     ensures { result ≡ slot_bears serial slot.now }
 {
@@ -17,7 +17,7 @@ fn slot_bears(slot: &Option<PayOrder>, serial: u64) -> bool
 }
 
 impl Orders {
-    // No orders yet, with room for so many.
+    /// No orders yet, with room for so many.
     pub fn with_room(heap: Global, most: usize) -> Result<Orders, AllocError>
         ensures { IfOk result (λ o. (slots_of o ≡ []) × (most ≤ room_in o)) }
     {
@@ -25,7 +25,7 @@ impl Orders {
         Ok(Orders { slots })
     }
 
-    // Keeps an order under the next number.
+    /// Keeps an order under the next number.
     pub(crate) fn keep(&mut self, order: PayOrder)
         requires { length (slots_of self.old) < room_in self.old }
         ensures { Leaves self.old (slots_of self.old ++ (Some order ∷ [])) self.new }
@@ -33,7 +33,7 @@ impl Orders {
         self.slots.push_reserved(Some(order));
     }
 
-    // Adds an order under the next number, or gives it back where there is no room.
+    /// Adds an order under the next number, or gives it back where there is no room.
     pub fn add(&mut self, order: PayOrder) -> Result<(), PayOrder>
         ensures { Adds self.old order result self.new }
     {
@@ -44,14 +44,14 @@ impl Orders {
         Ok(())
     }
 
-    // Whether one of the orders bears a serial.
+    /// Whether one of the orders bears a serial.
     pub fn bears(&self, serial: u64) -> bool
         ensures { result ≡ any_bears serial (slots_of self.now) }
     {
         self.slots.iter().any(|slot| slot_bears(slot, serial))
     }
 
-    // Takes out the order with a number, if it is there.
+    /// Takes out the order with a number, if it is there.
     pub fn take(&mut self, number: usize) -> Option<PayOrder>
         ensures value { result ≡ slot (slots_of self.old) number }
         ensures left { Leaves self.old (without (slots_of self.old) number) self.new }
@@ -60,7 +60,7 @@ impl Orders {
         self.slots[index].take()
     }
 
-    // Takes out the order with the highest number, and with it the numbers from there on.
+    /// Takes out the order with the highest number, and with it the numbers from there on.
     pub fn take_last(&mut self) -> Option<PayOrder>
         ensures taken { in_slots (slots_of self.old) ≡ in_slots (slots_of self.new) ++ option_to_list result }
         ensures shorter { MatchOption result (slots_of self.new ≡ []) (λ _. length (slots_of self.new) < length (slots_of self.old)) }
@@ -73,7 +73,7 @@ impl Orders {
         None
     }
 
-    // Lets the list go, if no number is left in it.
+    /// Lets the list go, if no number is left in it.
     pub fn end(self) -> Result<(), Orders>
         ensures { elim result [ Ok _ ↦ slots_of self ≡ [] | Err o ↦ (o ≡ self) × (slots_of self ≢ []) ] }
     {
@@ -84,7 +84,7 @@ impl Orders {
         Ok(())
     }
 
-    // Ends a list that has no number left.
+    /// Ends a list that has no number left.
     pub(crate) fn finish(self)
         requires { slots_of self ≡ [] }
     {

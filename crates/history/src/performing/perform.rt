@@ -1,4 +1,4 @@
-// Performing a list of calls, and ending it.
+//! Performing a list of calls, and ending it.
 ghost use Rattle.std.specs.Prelude.{◌≡◌, true, [], Ok, Err, IfOk};
 ghost use Rattle.house.specs.Shown.{shows};
 ghost use Rattle.history.specs.Slots.{slots_of};
@@ -19,7 +19,7 @@ use methodology::Methodology;
 use std::alloc::{AllocError, Global};
 
 impl<B: Bank + Drop, M: Methodology + Drop> NewHouse<B, M> {
-    // Makes the house, and then the calls, one after another, beside orders of other houses.
+    /// Makes the house, and then the calls, one after another, beside orders of other houses.
     fn make(
         self,
         heap: Global,
@@ -51,8 +51,8 @@ impl<B: Bank + Drop, M: Methodology + Drop> NewHouse<B, M> {
         })
     }
 
-    // Makes the house, and then the calls, one after another. Orders of other houses may be presented among them: they come
-    // back, and stay where they are.
+    /// Makes the house, and then the calls, one after another. Orders of other houses may be presented among them: they come
+    /// back, and stay where they are.
     pub fn perform(
         self,
         heap: Global,
@@ -69,7 +69,7 @@ impl<B: Bank + Drop, M: Methodology + Drop> NewHouse<B, M> {
         Ok(performance)
     }
 
-    // The same where there is no order of another house.
+    /// The same where there is no order of another house.
     pub fn perform_alone(
         self,
         heap: Global,
@@ -85,7 +85,7 @@ impl<B: Bank + Drop, M: Methodology + Drop> NewHouse<B, M> {
 }
 
 impl<B: Bank, M: Methodology> Performance<B, M> {
-    // Has every order in hand held, so that all its money stands at the places again, and gives back the house and the answers.
+    /// Has every order in hand held, so that all its money stands at the places again, and gives back the house and the answers.
     pub fn hold_all(self) -> (House<B, M>, Vec<Answer>)
         ensures held { AllHeld (shows B.Bank M.Methodology self.house) (shows B.Bank M.Methodology result.0) }
         ensures answers { result.1 ≡ self.answers }

@@ -1,4 +1,4 @@
-// What a till does: it takes money in at a place, draws orders, and takes them in again.
+//! What a till does: it takes money in at a place, draws orders, and takes them in again.
 ghost use Rattle.std.specs.Prelude.{◌≡◌, ◌≤◌, ◌&&◌};
 ghost use Rattle.orders.specs.Tills.{stands, ordered_at, is_place, room, New, Puts, Credits, Draws, mine, Releases, Holds};
 
@@ -10,7 +10,7 @@ use crate::till::refusal::TillRefusal;
 use crate::till::{PLACES, Till};
 
 impl Till {
-    // A till with no money in it.
+    /// A till with no money in it.
     pub fn new(serial: u64) -> Till
         ensures { New serial result }
     {
@@ -20,42 +20,42 @@ impl Till {
         }
     }
 
-    // The serial number that its orders bear.
+    /// The serial number that its orders bear.
     pub fn serial(&self) -> u64
         ensures { result ≡ self.now.serial }
     {
         self.serial
     }
 
-    // The money of a place that there is.
+    /// The money of a place that there is.
     fn at(&self, place: Place) -> Money
         ensures { (result.standing ≡ stands self.now place.number) × (result.on_orders ≡ ordered_at self.now place.number) }
     {
         self.money[place.index()]
     }
 
-    // The money of a place; none where there is no such place.
+    /// The money of a place; none where there is no such place.
     pub fn money(&self, place: u8) -> Money
         ensures { 1 ≤ place → (result.standing ≡ stands self.now place) × (result.on_orders ≡ ordered_at self.now place) }
     {
         Place::try_from(place).map_or(Money::none(), |place| self.at(place))
     }
 
-    // Whether so many grains more may come to a place.
+    /// Whether so many grains more may come to a place.
     pub fn has_room(&self, place: u8, grains: u128) -> bool
         ensures { result ≡ is_place place && room self.now place grains }
     {
         Place::try_from(place).is_ok_and(|place| self.at(place).with(grains).is_some())
     }
 
-    // Puts other money at a place.
+    /// Puts other money at a place.
     fn put(&mut self, place: Place, money: Money)
         ensures { Puts self.old place.number money.standing money.on_orders self.new }
     {
         self.money[place.index()] = money;
     }
 
-    // Takes in so many grains, which then stand at the place.
+    /// Takes in so many grains, which then stand at the place.
     pub fn credit(&mut self, place: u8, grains: u128) -> Result<(), TillRefusal>
         ensures { Credits self.old place grains result self.new }
     {
@@ -65,7 +65,7 @@ impl Till {
         Ok(())
     }
 
-    // Draws an order on all whole cents that stand at the place.
+    /// Draws an order on all whole cents that stand at the place.
     pub fn draw(&mut self, place: u8) -> Result<PayOrder, TillRefusal>
         ensures { Draws self.old place result self.new }
     {
@@ -85,14 +85,14 @@ impl Till {
         Ok(PayOrder::new(self.serial, place, cents))
     }
 
-    // Whether the order is one that this till may take in: of its serial, and for no more than is on orders at its place.
+    /// Whether the order is one that this till may take in: of its serial, and for no more than is on orders at its place.
     fn knows(&self, order: &PayOrder) -> bool
         ensures { result ≡ mine self.now order.now }
     {
         order.serial() == self.serial && order.cents() <= self.money(order.place()).on_orders
     }
 
-    // Pays the order.
+    /// Pays the order.
     pub fn release(&mut self, order: PayOrder) -> Result<Paid, Returned>
         ensures { Releases self.old order result self.new }
     {
@@ -112,7 +112,7 @@ impl Till {
         Ok(paid)
     }
 
-    // Puts the order's cents back.
+    /// Puts the order's cents back.
     pub fn hold(&mut self, order: PayOrder) -> Result<(), Returned>
         ensures { Holds self.old order result self.new }
     {

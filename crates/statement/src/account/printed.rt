@@ -1,4 +1,4 @@
-// The sums of an account, and its lines.
+//! The sums of an account, and its lines.
 ghost use Rattle.std.specs.Prelude.{◌≡◌, Some};
 ghost use Rattle.statement.specs.Totals.{covered_by, costs_by};
 ghost use Rattle.statement.specs.Text.{licensees_text, heads_text, costs_text, account_text};
@@ -7,7 +7,7 @@ use crate::account::Account;
 use std::fmt;
 
 impl Account {
-    // What the dues and the allowed revenues are covered by.
+    /// What the dues and the allowed revenues are covered by.
     pub fn covered(&self) -> i128
         ensures { result ≡ covered_by self.now }
     {
@@ -15,7 +15,7 @@ impl Account {
         (self.bills + self.fractions + self.carries) as i128 + self.balances + self.margins
     }
 
-    // What is to be paid for.
+    /// What is to be paid for.
     pub fn costs(&self) -> u128
         ensures { result ≡ costs_by self.now }
     {
@@ -25,7 +25,7 @@ impl Account {
 
 // The ten numbers of an account are written by three small types: one `write!` of them all passes the limits of the search.
 
-// `bills 618 fractions 7630`: what the licensees owe or were billed.
+/// `bills 618 fractions 7630`: what the licensees owe or were billed.
 #[derive(Clone, Copy)]
 struct Licensees(Account);
 
@@ -39,7 +39,7 @@ impl fmt::Display for Licensees {
     }
 }
 
-// `balances 222217 carries 153 margins 0`: what the heads hold and the intervals kept.
+/// `balances 222217 carries 153 margins 0`: what the heads hold and the intervals kept.
 #[derive(Clone, Copy)]
 struct Heads(Account);
 
@@ -54,7 +54,7 @@ impl fmt::Display for Heads {
     }
 }
 
-// `dues 5500000 revenues 910000 sum 6410000`: what is to be paid for.
+/// `dues 5500000 revenues 910000 sum 6410000`: what is to be paid for.
 #[derive(Clone, Copy)]
 struct Costs(Account);
 
@@ -69,7 +69,7 @@ impl fmt::Display for Costs {
     }
 }
 
-// As two lines, the second without a line feed: the terms on either side, each with its sum.
+/// As two lines, the second without a line feed: the terms on either side, each with its sum.
 impl fmt::Display for Account {
     ghost output = { λ a. Some (account_text a) };
 

@@ -1,4 +1,4 @@
-// The sum of a place's money, and its line.
+//! The sum of a place's money, and its line.
 ghost use Rattle.std.specs.Prelude.{◌≡◌, ◌+◌, Some};
 ghost use Rattle.statement.specs.Text.{money_text};
 
@@ -6,7 +6,7 @@ use crate::money::PlaceMoney;
 use std::fmt;
 
 impl PlaceMoney {
-    // The three together.
+    /// The three together.
     pub fn sum(&self) -> u128
         ensures { result ≡ self.now.released + self.now.in_hand + self.now.standing }
     {
@@ -14,7 +14,7 @@ impl PlaceMoney {
     }
 }
 
-// As `released 5500000 in-hand 0 standing 0 sum 5500000 terms 5500000`.
+/// As `released 5500000 in-hand 0 standing 0 sum 5500000 terms 5500000`.
 impl fmt::Display for PlaceMoney {
     ghost output = { λ m. Some (money_text m) };
 

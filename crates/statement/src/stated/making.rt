@@ -1,4 +1,4 @@
-// Making the statement of a list of calls that was performed.
+//! Making the statement of a list of calls that was performed.
 ghost use Rattle.std.specs.Prelude.{◌≡◌, ℕ, ◌+◌, ◌-◌, ◌*◌, ◌^◌, ◌<◌, ◌≤◌, List, length, None, Option, IfSome, slice_index_or, unsigned_abs};
 ghost use Rattle.agreements.specs.Meaning.{Meaning};
 ghost use Rattle.methodology.specs.Meaning.{Meaning as Market};
@@ -25,17 +25,17 @@ use methodology::Methodology;
 use orders::CENT;
 use std::array;
 
-// Most calls that are added up.
+/// Most calls that are added up.
 pub const CALL_LIMIT: usize = 4_294_967_296;
 
-// The licensees' fractions together.
+/// The licensees' fractions together.
 fn fractions_in(books: &Books) -> Total
     ensures { result.sum ≡ fractions_in books.now }
 {
     Total::of(&books.fractions, |fraction| *fraction)
 }
 
-// The balances of the first so many heads together: a sum of signed numbers, and so no `Total`.
+/// The balances of the first so many heads together: a sum of signed numbers, and so no `Total`.
 fn balances_in(books: &Books, heads: usize) -> i128
     requires { heads ≤ head_limit }
     ensures value { result ≡ balances_in heads books.now }
@@ -49,7 +49,7 @@ fn balances_in(books: &Books, heads: usize) -> i128
     sum
 }
 
-// Their carries together.
+/// Their carries together.
 fn carries_in(books: &Books, heads: usize) -> Total
     requires { heads ≤ head_limit }
     ensures { result.sum ≡ carries_in heads books.now }
@@ -58,7 +58,7 @@ fn carries_in(books: &Books, heads: usize) -> Total
 }
 
 impl Sources<'_> {
-    // The account over the closed months.
+    /// The account over the closed months.
     fn account(&self) -> Account
         ensures { Sums self.now.tally.now self.now.ledger.now.books self.now.heads result }
     {
@@ -75,7 +75,7 @@ impl Sources<'_> {
         }
     }
 
-    // The money of the place that comes behind so many.
+    /// The money of the place that comes behind so many.
     fn money(&self, before: usize) -> PlaceMoney
         requires { before < place_limit }
         ensures { Holds self.now.tally.now self.now.ledger.now.till (before + 1) result }
@@ -90,7 +90,7 @@ impl Sources<'_> {
         }
     }
 
-    // The money of every place, place 1 first.
+    /// The money of every place, place 1 first.
     fn places(&self) -> [PlaceMoney; PLACES]
         ensures { (k : ℕ) → k < place_limit → Holds self.now.tally.now self.now.ledger.now.till (k + 1) (slice_index_or result k no_money) }
     {
@@ -98,8 +98,8 @@ impl Sources<'_> {
     }
 }
 
-// The statement of a list of calls that was performed; none where the list is not the one that was performed, or has over
-// `CALL_LIMIT` calls.
+/// The statement of a list of calls that was performed; none where the list is not the one that was performed, or has over
+/// `CALL_LIMIT` calls.
 pub fn statement<B: Bank, M: Methodology>(
     calls: &[Call],
     performed: &Performance<B, M>,

@@ -1,4 +1,4 @@
-// What the statement of a list of calls is made from.
+//! What the statement of a list of calls is made from.
 ghost use Rattle.std.specs.Prelude.{◌*◌, ◌≤◌};
 ghost use Rattle.methodology.specs.Limits.{head_limit};
 ghost use Rattle.statement.specs.Bounds.{call_limit, turn, Within};
@@ -6,7 +6,7 @@ ghost use Rattle.statement.specs.Bounds.{call_limit, turn, Within};
 use crate::tally::Tally;
 use ledger::Ledger;
 
-// The sums over the answers, and what the house's ledger holds, under so many heads.
+/// The sums over the answers, and what the house's ledger holds, under so many heads.
 #[derive(Clone, Copy)]
 pub struct Sources<'a> {
     pub tally: &'a Tally,

@@ -1,4 +1,4 @@
-// Adding up one answer after another.
+//! Adding up one answer after another.
 ghost use Rattle.std.specs.Prelude.{◌≡◌, ℕ, ◌+◌, ◌*◌, ◌^◌, ◌<◌, ◌≤◌, length, slice_index, slice_index_or};
 ghost use Rattle.arith.specs.Months.{share as month_share_of};
 ghost use Rattle.accounts.specs.Limits.{licensee_limit};
@@ -20,21 +20,21 @@ use rates::REVENUES;
 use std::array;
 use tariffs::Row;
 
-// The cents of a licensee's line, if it has one.
+/// The cents of a licensee's line, if it has one.
 fn bill_of(line: &Option<Billed>) -> u64
     ensures { result ≡ bill_of line.now }
 {
     line.map_or(0, |billed| billed.bill)
 }
 
-// The cents that a sheet bills.
+/// The cents that a sheet bills.
 fn bills_on(sheet: &Sheet) -> Total
     ensures { result.sum ≡ bills_on sheet.now }
 {
     Total::of(&sheet.licensees, bill_of)
 }
 
-// The cents that the yearly revenues of a market allow in a month.
+/// The cents that the yearly revenues of a market allow in a month.
 fn shares_of(yearly: &[u64; REVENUES], shape: Shape, month: u8) -> Total
     ensures { result.sum ≡ sum_to (λ j. month_share_of (slice_index yearly.now j) month) shape.revenues }
 {
@@ -45,7 +45,7 @@ fn shares_of(yearly: &[u64; REVENUES], shape: Shape, month: u8) -> Total
 }
 
 impl PlaceTally {
-    // So many grains and cents more.
+    /// So many grains and cents more.
     fn add(&mut self, given: u64, released: u64)
         requires { Small (2 ^ 127) self.old }
         ensures { self.new ≡ plus self.old given released }
@@ -55,8 +55,8 @@ impl PlaceTally {
     }
 }
 
-// So many grains and cents more at a place, where there is such a place. For its own sums `take`
-// needs to be told the range of both.
+/// So many grains and cents more at a place, where there is such a place. For its own sums `take`
+/// needs to be told the range of both.
 fn more_at(places: &mut [PlaceTally; PLACES], place: u8, given: u64, released: u64)
     requires { (k : ℕ) → k < place_limit → Small (2 ^ 127) (slice_index_or places.old k no_tally) }
     ensures value { places.new ≡ more_at places.old place given released }
@@ -69,7 +69,7 @@ fn more_at(places: &mut [PlaceTally; PLACES], place: u8, given: u64, released: u
 }
 
 impl Tally {
-    // Before any call.
+    /// Before any call.
     fn nothing() -> Tally
         ensures { result ≡ nothing }
     {
@@ -87,14 +87,14 @@ impl Tally {
         }
     }
 
-    // A year was accepted: these are the revenues in force.
+    /// A year was accepted: these are the revenues in force.
     fn file(&mut self, row: &Row)
         ensures { self.new ≡ with_year row.now self.old }
     {
         self.yearly = array::from_fn(|j| row.figure(j));
     }
 
-    // A month was closed on this sheet.
+    /// A month was closed on this sheet.
     fn close(&mut self, shape: Shape, sheet: &Sheet)
         requires { Within (2 ^ 100) self.old }
         ensures value { self.new ≡ with_sheet shape.revenues sheet.now self.old }
@@ -107,7 +107,7 @@ impl Tally {
         self.shares += shares_of(&self.yearly, shape, sheet.month).sum;
     }
 
-    // Adds what is answered to a call.
+    /// Adds what is answered to a call.
     fn take(&mut self, shape: Shape, call: &Call, answer: &Answer)
         requires { Within (2 ^ 100) self.old }
         ensures value { self.new ≡ taken shape.revenues call.now answer.now self.old }
@@ -125,7 +125,7 @@ impl Tally {
         }
     }
 
-    // The sums over a list of calls, of a market of this shape.
+    /// The sums over a list of calls, of a market of this shape.
     pub(crate) fn of(shape: Shape, calls: &[Call], answers: &[Answer]) -> Tally
         requires same { length answers.now ≡ length calls.now }
         requires long { length calls.now ≤ call_limit }

@@ -1,4 +1,4 @@
-// A station's answers: from layer to layer in a loop, so that no number of layers wants more stack.
+//! A station's answers: from layer to layer in a loop, so that no number of layers wants more stack.
 ghost use Rattle.stations.specs.Layers.{station_meaning, base_meaning};
 ghost use Rattle.stations.specs.Layering.{base_lawful, lawful_layered};
 
@@ -29,7 +29,7 @@ impl Agreement for Station {
         Ok(())
     }
 
-    // The bottom is booked only once every layer has admitted the reading.
+    /// The bottom is booked only once every layer has admitted the reading.
     fn book(&mut self, reading: &Reading, table: &mut Dues) -> Result<(), Fault> {
         self.ask(reading, table)?;
         self.base.book(reading, &mut Dues::empty())

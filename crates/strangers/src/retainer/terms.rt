@@ -1,4 +1,4 @@
-// Making a retainer, and its answers.
+//! Making a retainer, and its answers.
 ghost use Rattle.std.specs.Prelude.{nat_le};
 ghost use Rattle.agreements.specs.Limits.{due_limit};
 ghost use Rattle.agreements.specs.Making.{Makes};
@@ -11,7 +11,7 @@ use agreements::{Agreement, Cause, Dues, Fault, OverLimit};
 use metering::Reading;
 
 impl Retainer {
-    // A retainer of this fee in grains, for so many readings.
+    /// A retainer of this fee in grains, for so many readings.
     pub fn new(fee: u64, readings: u64) -> Result<Retainer, OverLimit>
         ensures { Makes (nat_le fee due_limit) meaning_of_retainer (retainer_at fee readings) result }
     {
