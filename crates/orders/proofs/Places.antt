@@ -7,8 +7,8 @@ use Rattle.orders.specs.declared.money.Money.{Money}
 use Rattle.orders.specs.declared.order.PayOrder.{PayOrder}
 use Rattle.orders.specs.declared.order.Paid.{Paid}
 use Rattle.orders.specs.declared.till.Till.{Till}
-use Rattle.orders.specs.declared.till.refusal.TillRefusal.{TillRefusal}
-use Rattle.orders.specs.declared.till.refusal.TillRefusal.TheVariants.{NoPlace, TooMuch, UnderACent}
+use Rattle.orders.specs.declared.till.CreditRefusal.{CreditRefusal}
+use Rattle.orders.specs.declared.till.CreditRefusal.TheVariants.{NoPlace, TooMuch}
 use Rattle.orders.specs.Limits.{cent, money_limit, place_limit}
 use Rattle.orders.specs.Tills.{no_money, money_at, stands, ordered_at, is_place, Puts, New, Credits, Releases}
 
@@ -65,7 +65,7 @@ puts t t' p i m at high serial put =
     }
 
 -- the cents of an order that was released can stand at its place again
-pub held_fits : (t t' t'' : Till) (o : PayOrder) (paid : Paid) (k n : ℕ) (r : Result (Unit {0}) TillRefusal) → Releases t o (Ok paid) t' → k ≡ cent → n ≡ paid.cents → Credits t' paid.place (k * n) r t'' → is_ok r ≡ true
+pub held_fits : (t t' t'' : Till) (o : PayOrder) (paid : Paid) (k n : ℕ) (r : Result (Unit {0}) CreditRefusal) → Releases t o (Ok paid) t' → k ≡ cent → n ≡ paid.cents → Credits t' paid.place (k * n) r t'' → is_ok r ≡ true
 held_fits t t' t'' o paid k n (Ok u) m each cents c = refl
 held_fits t t' t'' o paid k n (Err NoPlace) m each cents c =
     let p = ap (λ (x : Paid). x.place) m.1 in
@@ -79,4 +79,3 @@ held_fits t t' t'' o paid k n (Err TooMuch) m each cents c =
     let within = money_within t o.place in
     let some : o.cents ≤ ordered_at t o.place = leb-true _ _ (and_parts (o.serial == t.serial) (nat_le o.cents (ordered_at t o.place)) m.0).1 in
     absurd (false≢true (sym c.1 ∙ le-leb (k * n + (stands t' paid.place + cent * ordered_at t' paid.place)) money_limit (omega (arith, grains, standing, ordered, within, some))))
-held_fits t t' t'' o paid k n (Err UnderACent) m each cents c = absurd c

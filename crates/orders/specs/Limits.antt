@@ -14,7 +14,3 @@ money_limit = 4000000000000000000
 -- most places: as many as stations can be told apart by
 abbrev pub place_limit : ℕ
 place_limit = number_limit Generator
-
--- the number of the refusal of an order that is not taken in
-abbrev pub returned_number : ℕ
-returned_number = 22

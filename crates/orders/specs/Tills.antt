@@ -6,11 +6,13 @@ use Rattle.orders.specs.declared.order.PayOrder.{PayOrder}
 use Rattle.orders.specs.declared.order.Paid.{Paid}
 use Rattle.orders.specs.declared.order.Returned.{Returned}
 use Rattle.orders.specs.declared.till.Till.{Till}
-use Rattle.orders.specs.declared.till.refusal.TillRefusal.{TillRefusal}
-use Rattle.orders.specs.declared.till.refusal.TillRefusal.TheVariants.{NoPlace, TooMuch, UnderACent}
+use Rattle.orders.specs.declared.till.DrawRefusal.{DrawRefusal}
+use Rattle.orders.specs.declared.till.DrawRefusal.TheVariants as draw
+use Rattle.orders.specs.declared.till.CreditRefusal.{CreditRefusal}
+use Rattle.orders.specs.declared.till.CreditRefusal.TheVariants as credit
 use Rattle.orders.specs.Limits.{cent, money_limit, place_limit}
 
--- `get_or` wants something past the end
+-- what is read past the end of the list of places
 abbrev pub no_money : Money
 no_money = record { standing = 0; on_orders = 0; within = lit≤ tt }
 
@@ -26,6 +28,13 @@ ordered_at t p = (money_at t p).on_orders
 
 abbrev pub is_place : ℕ → Bool
 is_place p = nat_le 1 p && nat_le p place_limit
+
+-- m is what place p has
+abbrev pub MoneyAt : Till → ℕ → Money → Type 0
+MoneyAt t p m = (m.standing ≡ stands t p) × (m.on_orders ≡ ordered_at t p)
+
+abbrev pub NoMoney : Money → Type 0
+NoMoney m = (m.standing ≡ 0) × (m.on_orders ≡ 0)
 
 -- so many grains more keep the limit
 abbrev pub room : Till → ℕ → ℕ → Bool
@@ -46,11 +55,10 @@ pub record Puts (t : Till) (p standing ordered : ℕ) (t' : Till) : Type 0 where
   pub others_on_orders : (q : ℕ) → 1 ≤ q → (q ≢ p) → ordered_at t' q ≡ ordered_at t q
 
 -- grains come to a place
-abbrev pub Credits : Till → ℕ → ℕ → Result (Unit {0}) TillRefusal → Till → Type 0
+abbrev pub Credits : Till → ℕ → ℕ → Result (Unit {0}) CreditRefusal → Till → Type 0
 Credits t p grains (Ok _) t' = (is_place p ≡ true) × (room t p grains ≡ true) × Puts t p (stands t p + grains) (ordered_at t p) t'
-Credits t p grains (Err NoPlace) t' = (is_place p ≡ false) × (t' ≡ t)
-Credits t p grains (Err TooMuch) t' = (is_place p ≡ true) × (room t p grains ≡ false) × (t' ≡ t)
-Credits t p grains (Err UnderACent) t' = ⊥
+Credits t p grains (Err credit.NoPlace) t' = (is_place p ≡ false) × (t' ≡ t)
+Credits t p grains (Err credit.TooMuch) t' = (is_place p ≡ true) × (room t p grains ≡ false) × (t' ≡ t)
 
 -- an order takes all whole cents that stand at the place
 pub record Drawn (t : Till) (p : ℕ) (o : PayOrder) (t' : Till) : Type 0 where
@@ -59,11 +67,10 @@ pub record Drawn (t : Till) (p : ℕ) (o : PayOrder) (t' : Till) : Type 0 where
   pub cents_of : o.cents ≡ stands t p / cent
   pub left : Puts t p (stands t p % cent) (ordered_at t p + o.cents) t'
 
-abbrev pub Draws : Till → ℕ → Result PayOrder TillRefusal → Till → Type 0
+abbrev pub Draws : Till → ℕ → Result PayOrder DrawRefusal → Till → Type 0
 Draws t p (Ok o) t' = (is_place p ≡ true) × (cent ≤ stands t p) × Drawn t p o t'
-Draws t p (Err NoPlace) t' = (is_place p ≡ false) × (t' ≡ t)
-Draws t p (Err TooMuch) t' = ⊥
-Draws t p (Err UnderACent) t' = (is_place p ≡ true) × (stands t p < cent) × (t' ≡ t)
+Draws t p (Err draw.NoPlace) t' = (is_place p ≡ false) × (t' ≡ t)
+Draws t p (Err draw.UnderACent) t' = (is_place p ≡ true) × (stands t p < cent) × (t' ≡ t)
 
 -- an order that the till may take in: of its serial, and for no more than is on orders at its place
 abbrev pub mine : Till → PayOrder → Bool

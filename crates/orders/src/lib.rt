@@ -9,6 +9,5 @@ pub mod till;
 
 pub use limits::{CENT, MONEY_LIMIT};
 pub use money::Money;
-pub use order::{Paid, PayOrder, Returned};
-pub use till::Till;
-pub use till::refusal::{RETURNED, TillRefusal};
+pub use order::{Paid, PayOrder, RETURNED, Returned};
+pub use till::{CreditRefusal, DrawRefusal, Till};

@@ -4,6 +4,7 @@ ghost use Rattle.orders.specs.Limits.{cent, money_limit};
 
 use crate::limits::{CENT, MONEY_LIMIT};
 
+/// What a place has: grains that stand there, and cents that are out on orders.
 #[derive(Clone, Copy)]
 pub struct Money {
     /// Grains that no order is drawn on.
@@ -14,7 +15,7 @@ pub struct Money {
 }
 
 impl Money {
-    /// No money. There is no `Default`, since a struct with a ghost field has no derive of it.
+    /// No money.
     pub(crate) fn none() -> Money
         ensures { (result.standing ≡ 0) × (result.on_orders ≡ 0) }
     {

@@ -1,16 +1,18 @@
 //! Pay orders: plain numbers, made by a draw and spent by a release or a hold.
 ghost use Rattle.std.specs.Prelude.{◌≡◌, ◌<◌, ◌≤◌};
-ghost use Rattle.orders.specs.Limits.{place_limit, returned_number};
+ghost use Rattle.orders.specs.Limits.{place_limit};
+ghost use Rattle.orders.specs.Refusals.{returned_number};
 
 use crate::place::Place;
-use crate::till::refusal::RETURNED;
+
+/// The number of the refusal of an order that is not taken in.
+pub const RETURNED: u8 = 22;
 
 /// An order to pay a station. Whoever has one in hand must see it released or held: it cannot be let go.
 pub struct PayOrder {
     serial: u64,
     place: u8,
     cents: u64,
-    /// `Place` has this fact too, and is no field here: ledger's definitions speak of the order's number.
     ghost placed: { (1 ≤ place) × (place ≤ place_limit) },
 }
 
@@ -55,14 +57,14 @@ impl PayOrder {
         self.place
     }
 
-    /// The same as a place that there is.
+    /// Its place, which there is.
     pub(crate) fn at(&self) -> Place
         ensures { result.number ≡ self.now.place }
     {
         Place { number: self.place }
     }
 
-    /// What it pays.
+    /// What it pays, in cents.
     pub fn cents(&self) -> u64
         ensures { result ≡ self.now.cents }
     {
@@ -82,7 +84,7 @@ impl PayOrder {
     }
 }
 
-/// What a release paid.
+/// What a release paid, in cents, and to which place.
 #[derive(Clone, Copy, PartialEq, Eq, Debug)]
 pub struct Paid {
     pub place: u8,

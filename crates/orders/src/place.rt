@@ -1,34 +1,28 @@
-//! The places of a market, counted from 1.
-ghost use Rattle.std.specs.Prelude.{◌≡◌, ◌+◌, ◌≤◌, true, false, MatchResult};
+//! The places of a market.
+ghost use Rattle.std.specs.Prelude.{◌≡◌, ◌+◌, ◌≤◌, true, false, MatchOption};
 ghost use Rattle.orders.specs.Limits.{place_limit};
 ghost use Rattle.orders.specs.Tills.{is_place};
-ghost use Rattle.orders.specs.declared.till.refusal.TillRefusal.TheVariants.{NoPlace};
 
-use crate::till::refusal::TillRefusal;
 use metering::PLACES;
 
-/// A place that there is.
+/// A place that there is, by its number, which counts from 1.
 #[derive(Clone, Copy)]
 pub(crate) struct Place {
     pub(crate) number: u8,
     ghost there: { (1 ≤ number) × (number ≤ place_limit) },
 }
 
-/// The place with a number, where there is one.
-impl TryFrom<u8> for Place {
-    type Error = TillRefusal;
-
-    ghost try_from_gives = { λ number answer. MatchResult answer (λ place. (is_place number ≡ true) × (place.number ≡ number)) (λ why. (is_place number ≡ false) × (why ≡ NoPlace)) };
-
-    fn try_from(number: u8) -> Result<Place, TillRefusal> {
+impl Place {
+    /// The place with a number, if there is one.
+    pub(crate) fn numbered(number: u8) -> Option<Place>
+        ensures { MatchOption result (is_place number ≡ false) (λ place. (is_place number ≡ true) × (place.number ≡ number)) }
+    {
         match number {
-            1..=PLACES => Ok(Place { number }),
-            _ => Err(TillRefusal::NoPlace),
+            1..=PLACES => Some(Place { number }),
+            _ => None,
         }
     }
-}
 
-impl Place {
     /// Where it stands in a list of all places.
     pub(crate) fn index(self) -> usize
         ensures { result + 1 ≡ self.number }
