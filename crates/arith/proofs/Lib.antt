@@ -1,3 +1,2 @@
 pub mod Floors
 pub mod Shares
-pub mod Growth

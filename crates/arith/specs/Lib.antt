@@ -1,5 +1,6 @@
+pub mod Money
 pub mod Division
 pub mod Scaling
 pub mod Months
 pub mod Interest
-pub mod Splits
+pub mod lemmas

@@ -13,10 +13,15 @@ pub record Rounded (n d r : ℕ) : Type 0 where
   pub low : r * d ≤ n
   pub high : n < (r + 1) * d
 
--- x and so many millionths of it
-abbrev pub more_by : ℕ → ℕ → ℕ
-more_by ppm x = x * (whole_ppm + ppm) / whole_ppm
+-- so many millionths of x
+abbrev pub millionths : ℕ → ℕ → ℕ
+millionths ppm x = x * ppm / whole_ppm
 
+-- x and so many millionths of it on top
+abbrev pub more_by : ℕ → ℕ → ℕ
+more_by ppm x = millionths (whole_ppm + ppm) x
+
+-- the same of a signed number
 abbrev pub more_by_signed : ℕ → ℤ → ℤ
 more_by_signed ppm x = floor (x *ℤ pos (whole_ppm + ppm)) whole_ppm
 

@@ -1,7 +1,7 @@
 //! The amounts that can be split.
 ghost use Rattle.std.specs.Prelude.{◌≡◌, ℕ, ◌/◌, ◌%◌, ◌<◌};
 ghost use Rattle.arith.specs.Division.{Split};
-ghost use Rattle.arith.specs.Splits.{parts_split, split_parts};
+ghost use Rattle.arith.specs.lemmas.Splits.{parts_split, split_parts};
 
 /// A number of cents or grains, of 64 or of 128 bits.
 pub trait Amount: Copy {

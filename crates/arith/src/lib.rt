@@ -1,18 +1,22 @@
-//! Arithmetic of the settlement house: a division that answers both numbers, floors of signed numbers, scaling, month shares.
+//! Arithmetic of money: every division of the settlement house, with what becomes of the rest.
 #![tactic(auto)]
 
 mod amount;
 pub mod division;
 pub mod interest;
+pub mod money;
 pub mod months;
 pub mod quantity;
 pub mod scaling;
 
 pub use division::{floor_div, split};
 pub use interest::adjustment;
-pub use months::month_share;
+pub use money::{CENT, DEMAND_RATE_LIMIT, ENERGY_RATE_LIMIT};
+pub use months::{MONTHS, month_share};
 pub use quantity::NoQuantity;
-pub use scaling::{scale_ppm, scale_ppm_signed, scale_thousandths};
+pub use scaling::{
+    WHOLE_PPM, WHOLE_THOUSANDTHS, scale_millionths, scale_ppm, scale_ppm_signed, scale_thousandths,
+};
 
 #[cfg(test)]
 mod tests {

@@ -3,7 +3,7 @@ use Rattle.std.specs.Prelude.{◌≡◌, ℕ, ◌+◌, ◌-◌, Bool, true, fals
 use Rattle.methodology.specs.declared.shape.Shape.{Shape}
 use Rattle.methodology.specs.declared.head.Head.{Head}
 use Rattle.methodology.specs.declared.head.Head.TheVariants.{Generation, Revenue, Interval}
-use Rattle.methodology.specs.Limits.{energy_rate_limit, demand_rate_limit}
+use Rattle.arith.specs.Money.{energy_rate_limit, demand_rate_limit}
 use Rattle.methodology.specs.Meaning.{UpTo}
 
 abbrev pub heads_of : Shape → ℕ

@@ -1,5 +1,6 @@
 -- The limits that methodologies and their heads keep.
 use Rattle.std.specs.Prelude.{ℕ}
+use Rattle.arith.specs.Scaling.{whole_ppm}
 
 -- most allowed revenues: there are three names for them
 abbrev pub revenue_limit : ℕ
@@ -15,12 +16,4 @@ supply_limit = 100000000000
 
 -- most that a filed loss factor may be, ppm: as much lost as delivered
 abbrev pub factor_limit : ℕ
-factor_limit = 1000000
-
--- most that a rate may be, grains per kWh
-abbrev pub energy_rate_limit : ℕ
-energy_rate_limit = 100000000
-
--- most that a rate may be, grains per kW
-abbrev pub demand_rate_limit : ℕ
-demand_rate_limit = 50000000000
+factor_limit = whole_ppm

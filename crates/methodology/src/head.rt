@@ -1,16 +1,12 @@
-//! A head: one of the accounts that a month is billed by. Money is counted in grains; a grain is 1/10,000 of a cent.
-ghost use Rattle.std.specs.Prelude.{Some};
-ghost use Rattle.methodology.specs.Names.{name};
+//! A head: one of the accounts that a month is billed by.
+ghost use Rattle.std.specs.Prelude.{◌≡◌, Some};
+ghost use Rattle.methodology.specs.Heads.{by_demand, rate_limit};
+ghost use Rattle.methodology.specs.Names.{letter, numeral, name};
 
+use arith::{DEMAND_RATE_LIMIT, ENERGY_RATE_LIMIT};
 use std::fmt;
 
-/// Most that a rate by energy may be, grains per kWh: 10,000 cents.
-/// A licensee's whole month at this rate, some 10^17 grains, is far within 64 bits.
-pub const ENERGY_RATE_LIMIT: u64 = 100_000_000;
-
-/// Most that a rate by demand may be, grains per kW: 5,000,000 cents. The greatest demand at this rate is again 10^17 grains.
-pub const DEMAND_RATE_LIMIT: u64 = 50_000_000_000;
-
+/// What a sum of money is collected for. Each head has a rate of its own, which all licensees pay.
 #[derive(Clone, Copy, PartialEq, Eq, Debug)]
 pub enum Head {
     /// Generation capacity.
@@ -21,17 +17,59 @@ pub enum Head {
     Interval(usize),
 }
 
+impl Head {
+    /// Whether the head is billed by demand, kW, and not by energy, kWh.
+    pub fn is_demand(self) -> bool
+        ensures { result ≡ by_demand self }
+    {
+        matches!(self, Head::Generation | Head::Revenue(_))
+    }
+
+    /// Most that a rate of this head may be, grains per kW or per kWh.
+    pub fn rate_limit(self) -> u64
+        ensures { result ≡ rate_limit self }
+    {
+        if self.is_demand() {
+            DEMAND_RATE_LIMIT
+        } else {
+            ENERGY_RATE_LIMIT
+        }
+    }
+
+    /// The letter that its name begins with: G; T, B and S for the three revenues that a market may have; E.
+    pub fn letter(self) -> &'static str
+        ensures { result.now ≡ letter self }
+    {
+        match self {
+            Head::Generation => "G",
+            Head::Revenue(1) => "T",
+            Head::Revenue(2) => "B",
+            Head::Revenue(3) => "S",
+            Head::Revenue(_) => "R",
+            Head::Interval(_) => "E",
+        }
+    }
+
+    /// The number that its name has behind the letter: an interval's. The letters T, B and S tell the revenues apart.
+    pub fn numeral(self) -> Option<usize>
+        ensures { result ≡ numeral self }
+    {
+        match self {
+            Head::Generation | Head::Revenue(1..=3) => None,
+            Head::Revenue(i) | Head::Interval(i) => Some(i),
+        }
+    }
+}
+
 /// G; T, B and S for the revenues; E1, E2 and so on for the intervals.
 impl fmt::Display for Head {
     ghost output = { λ h. Some (name h) };
 
     fn fmt<W: fmt::Write>(&self, f: &mut fmt::Formatter<W>) -> fmt::Result {
-        match *self {
-            Head::Generation => f.write_str("G"),
-            Head::Revenue(1) => f.write_str("T"),
-            Head::Revenue(2) => f.write_str("B"),
-            Head::Revenue(_) => f.write_str("S"),
-            Head::Interval(i) => write!(f, "E{i}"),
+        f.write_str(self.letter())?;
+        match self.numeral() {
+            Some(numeral) => write!(f, "{numeral}"),
+            None => Ok(()),
         }
     }
 }

@@ -1,4 +1,4 @@
-//! Methodologies: how a market divides its day into intervals and what supply it allows, and the heads that follow from it.
+//! Methodologies: a market's own rules, which say what heads it has, in which interval a block of its day is, and what supply it allows.
 #![tactic(auto)]
 
 pub mod head;
@@ -8,9 +8,9 @@ pub mod shape;
 pub mod three;
 pub mod two;
 
-pub use head::{DEMAND_RATE_LIMIT, ENERGY_RATE_LIMIT, Head};
+pub use head::Head;
 pub use layout::head_of_block;
-pub use rules::Methodology;
+pub use rules::{FACTOR_LIMIT, Methodology};
 pub use shape::Shape;
 pub use three::ThreeIntervals;
 pub use two::TwoIntervals;

@@ -1,4 +1,4 @@
-//! What a methodology is.
+//! The trait of methodologies.
 ghost use Rattle.std.specs.Prelude.{◌≡◌, ℕ, ◌<◌, ◌≤◌};
 ghost use Rattle.metering.specs.Limits.{block_count};
 ghost use Rattle.methodology.specs.declared.shape.Shape.{Shape};
@@ -6,10 +6,13 @@ ghost use Rattle.methodology.specs.Limits.{supply_limit, factor_limit};
 ghost use Rattle.methodology.specs.Meaning.{Meaning, UpTo, OneToTwo};
 
 use crate::shape::Shape;
+use arith::WHOLE_PPM;
+
+/// Most that a filed loss factor may be, ppm: as much lost as delivered.
+pub const FACTOR_LIMIT: u64 = WHOLE_PPM;
 
 /// A market's own rules: which interval a block of the day is in, and how much of the energy sent in its price may cover.
-/// It refuses nothing and never changes. Intervals are numbers from 1, and no enum of one market's, for code over any market
-/// goes by them; nothing is said of a block that the day has not, since a type of blocks would ask more of callers.
+/// It refuses nothing and never changes. Intervals are counted from 1. Nothing is said of a block that the day does not have.
 pub trait Methodology {
     /// How many allowed revenues it has.
     const REVENUES: usize;

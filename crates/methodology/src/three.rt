@@ -1,4 +1,4 @@
-//! Three intervals, after the methodology of Sri Lanka's regulator (PUCSL, January 2021).
+//! A market with three intervals, in which all the energy that was sent in is billed.
 ghost use Rattle.std.specs.Prelude.{◌≡◌, ◌<◌, refl};
 ghost use Rattle.metering.specs.Limits.{block_count};
 ghost use Rattle.methodology.specs.Markets.{begins, three_shape, three_meaning, three_by_the_clock};
@@ -12,7 +12,7 @@ const PEAK: usize = 2;
 
 const OFF_PEAK: usize = 3;
 
-/// Its revenues are those for transmission, and for bulk supply and operations.
+/// Day, peak and off-peak. Its revenues are those for transmission, and for bulk supply and operations.
 #[derive(Clone, Copy)]
 pub struct ThreeIntervals;
 
@@ -48,7 +48,7 @@ impl Methodology for ThreeIntervals {
     }
 
     /// All that was sent in.
-    fn allowed_supply(&self, sent: u64, delivered: u64, factor: u32) -> u64 {
+    fn allowed_supply(&self, sent: u64, _delivered: u64, _factor: u32) -> u64 {
         sent
     }
 }

@@ -1,8 +1,8 @@
-//! Two intervals, after the methodology of Malawi's regulator (MERA, November 2015).
+//! A market with two intervals, in which delivered energy is billed with its filed losses.
 ghost use Rattle.std.specs.Prelude.{◌≡◌, ◌<◌, refl};
 ghost use Rattle.metering.specs.Limits.{block_count};
 ghost use Rattle.methodology.specs.Markets.{begins, two_shape, two_meaning, two_by_the_clock};
-ghost use Rattle.arith.proofs.Growth.{no_less, at_most_double};
+ghost use Rattle.arith.specs.lemmas.Growth.{no_less, at_most_double};
 ghost use Rattle.std.proofs.Common.{rules};
 
 use crate::rules::Methodology;
@@ -12,7 +12,7 @@ const PEAK: usize = 1;
 
 const OFF_PEAK: usize = 2;
 
-/// Its revenues are those for transmission, for the single buyer, and for the system and market operator.
+/// Peak and off-peak. Its revenues are those for transmission, for the single buyer, and for the system and market operator.
 #[derive(Clone, Copy)]
 pub struct TwoIntervals;
 
@@ -47,7 +47,7 @@ impl Methodology for TwoIntervals {
     }
 
     /// What was delivered, and the filed losses on top.
-    fn allowed_supply(&self, sent: u64, delivered: u64, factor: u32) -> u64 {
+    fn allowed_supply(&self, _sent: u64, delivered: u64, factor: u32) -> u64 {
         u64::try_from(scale_ppm(delivered, factor)).unwrap_or(u64::MAX)
     }
 }

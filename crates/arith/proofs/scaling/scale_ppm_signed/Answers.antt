@@ -3,7 +3,7 @@ use mir.Syntax.{w128}
 use Rattle.std.proofs.lemmas.Grind.{common_steps}
 use Rattle.arith.specs.Scaling.{whole_ppm, more_by_signed}
 use Rattle.arith.proofs.Floors.{floor_holds}
-use Rattle.arith.proofs.Growth.{no_less_signed, at_most_double_signed}
+use Rattle.arith.specs.lemmas.Growth.{no_less_signed, at_most_double_signed}
 use Rattle.arith.proofs.scaling.scale_ppm_signed.Goals as goal
 use Rattle.arith.proofs.scaling.scale_ppm_signed.Goals.{After-div_euclid}
 
@@ -14,6 +14,10 @@ pub returns-clause-floored : goal.returns-clause-floored
 returns-clause-floored c =
     rw (is (goal.at.returns-clause-floored c).After-div_euclid) (floor_holds (c.args.x *ℤ pos (whole_ppm + c.args.ppm)) whole_ppm (lit< tt))
 
-pub returns-clause-grown : goal.returns-clause-grown
-returns-clause-grown c =
-    rw (is (goal.at.returns-clause-grown c).After-div_euclid) (no_less_signed c.args.x c.args.ppm, at_most_double_signed c.args.x c.args.ppm)
+pub returns-clause-no_less : goal.returns-clause-no_less
+returns-clause-no_less c =
+    rw (is (goal.at.returns-clause-no_less c).After-div_euclid) (no_less_signed c.args.x c.args.ppm)
+
+pub returns-clause-at_most_double : goal.returns-clause-at_most_double
+returns-clause-at_most_double c =
+    rw (is (goal.at.returns-clause-at_most_double c).After-div_euclid) (at_most_double_signed c.args.x c.args.ppm)

@@ -1,0 +1,14 @@
+-- Money is counted in grains: the ten-thousandth part of a cent.
+use Rattle.std.specs.Prelude.{ℕ}
+
+-- the grains of a cent
+abbrev pub cent : ℕ
+cent = 10000
+
+-- most that a rate or a price by energy may be, grains per kWh
+abbrev pub energy_rate_limit : ℕ
+energy_rate_limit = 100000000
+
+-- most that a rate or a price by demand may be, grains per kW
+abbrev pub demand_rate_limit : ℕ
+demand_rate_limit = 50000000000
