@@ -1,5 +1,5 @@
 -- How a month grows, reading by reading.
-use Rattle.std.specs.Prelude.{◌≡◌, ℕ, ◌+◌, ◌-◌, ◌<◌, Bool, true, false, cond, ◌&&◌, is_some, Some, None, Ok, Err, Option, Result, ◌≢◌, nat_le, slice_index, slice_index_or, slice_set}
+use Rattle.std.specs.Prelude.{◌≡◌, ℕ, ◌+◌, ◌-◌, ◌<◌, Bool, true, false, cond, ◌&&◌, is_some, Some, None, Ok, Err, Option, Result, ◌≢◌, nat_le, nat_lt, slice_index, slice_index_or, slice_set}
 use Rattle.metering.specs.declared.reading.Reading.{Reading}
 use Rattle.methodology.specs.Limits.{head_limit}
 use Rattle.agreements.specs.Limits.{due_limit}
@@ -7,8 +7,10 @@ use Rattle.agreements.specs.Dues.{capacity_due, block_sum}
 use Rattle.agreements.specs.declared.dues.Dues.{Dues}
 use Rattle.accounts.specs.declared.delivery.Delivery.{Delivery}
 use Rattle.accounts.specs.declared.month.Month.{Month}
-use Rattle.accounts.specs.declared.unadded.Unadded.{Unadded}
-use Rattle.accounts.specs.declared.unadded.Unadded.TheVariants.{Again, Ceiling}
+use Rattle.accounts.specs.declared.month.Unadded.{Unadded}
+use Rattle.accounts.specs.declared.month.Unadded.TheVariants.{Again, Ceiling}
+use Rattle.accounts.specs.declared.month.Undelivered.{Undelivered}
+use Rattle.accounts.specs.declared.month.Undelivered.TheVariants as delivery
 use Rattle.accounts.specs.Limits.{licensee_limit}
 use Rattle.accounts.specs.Sums.{sum_to}
 use Rattle.accounts.specs.Counts.{count_true, count_some}
@@ -82,6 +84,6 @@ reading_answer m reading dues =
     (cond (nat_le (capacity_due dues) due_limit && nat_le (block_sum dues) due_limit) (Ok tt) (Err Ceiling))
 
 -- what adding a licensee's reading answers
-abbrev pub delivery_answer : Month → Reading → Result (Unit {0}) Unadded
+abbrev pub delivery_answer : Month → Reading → Result (Unit {0}) Undelivered
 delivery_answer m reading =
-    cond (nat_le reading.number licensee_limit) (cond (delivered_at m reading.number) (Err Again) (Ok tt)) (Err Again)
+    cond (nat_lt licensee_limit reading.number) (Err delivery.NoLicensee) (cond (delivered_at m reading.number) (Err delivery.Again) (Ok tt))

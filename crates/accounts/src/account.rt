@@ -2,6 +2,9 @@
 ghost use Rattle.std.specs.Prelude.{◌*◌, ◌≤◌, unsigned_abs};
 ghost use Rattle.accounts.specs.Limits.{balance_limit, carry_limit};
 
+/// Most that a balance may be in size, grains: well within 64 bits.
+pub const BALANCE_LIMIT: u64 = 4_000_000_000_000_000_000;
+
 /// A head's account, in grains; a grain is 1/10,000 of a cent.
 #[derive(Clone, Copy)]
 pub struct Account {
@@ -17,4 +20,20 @@ pub struct Account {
     ghost opened: { unsigned_abs opening ≤ balance_limit },
     ghost recalled: { unsigned_abs before ≤ 2 * balance_limit },
     ghost carried: { carry ≤ carry_limit },
+}
+
+impl Account {
+    ghost use Rattle.accounts.specs.Books.{AccountBegun};
+
+    /// The account in the next period.
+    pub(crate) fn begun(self) -> Account
+        ensures { AccountBegun self result }
+    {
+        Account {
+            balance: self.balance,
+            opening: self.balance,
+            before: self.balance - self.opening,
+            carry: self.carry,
+        }
+    }
 }

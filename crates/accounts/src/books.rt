@@ -7,8 +7,6 @@ use crate::account::Account;
 use crate::delivery::LICENSEES;
 use rates::HEADS;
 
-pub mod periods;
-
 /// The heads' accounts, head 1 first, and each licensee's fraction of a cent, in grains, licensee 1 first.
 #[derive(Clone, Copy)]
 pub struct Books {
@@ -17,4 +15,42 @@ pub struct Books {
     ghost headed: { length accounts ≡ head_limit },
     ghost full: { length fractions ≡ licensee_limit },
     ghost cents: { (l : ℕ) → l < licensee_limit → slice_index fractions l < cent },
+}
+
+impl Books {
+    ghost use Rattle.accounts.specs.Books.{Unused, PeriodBegun, earlier};
+
+    /// Books without money.
+    pub fn new() -> Books
+        ensures { Unused result }
+    {
+        let account = Account {
+            balance: 0,
+            opening: 0,
+            before: 0,
+            carry: 0,
+        };
+        Books {
+            accounts: [account; HEADS],
+            fractions: [0; LICENSEES],
+        }
+    }
+
+    /// Ends a tariff period and begins the next one.
+    pub fn begin_period(&mut self)
+        ensures { PeriodBegun self.old self.new }
+    {
+        *self = Books {
+            accounts: self.accounts.map(|account| account.begun()),
+            fractions: self.fractions,
+        };
+    }
+
+    /// By head, what a tariff that is filed now adjusts for: the differences of the period before this one,
+    /// which is two before the period that the tariff begins.
+    pub fn earlier(&self) -> [i64; HEADS]
+        ensures { result ≡ earlier self.now }
+    {
+        self.accounts.map(|account| account.before)
+    }
 }

@@ -7,14 +7,12 @@ pub mod delivery;
 pub mod month;
 pub mod sheet;
 mod tables;
-pub mod unadded;
 
-pub use account::Account;
+pub use account::{Account, BALANCE_LIMIT};
 pub use books::Books;
 pub use delivery::{Delivery, LICENSEES};
-pub use month::{Month, PLACES};
+pub use month::{Month, PLACES, Unadded, Undelivered};
 pub use sheet::{Billed, HeadLine, Sheet};
-pub use unadded::Unadded;
 
 #[cfg(test)]
 mod tests {

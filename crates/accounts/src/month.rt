@@ -1,22 +1,27 @@
 //! The open month, as sums.
-ghost use Rattle.std.specs.Prelude.{◌≡◌, ℕ, ◌*◌, ◌<◌, ◌≤◌, length, slice_index};
+ghost use Rattle.std.specs.Prelude.{◌≡◌, ℕ, ◌+◌, ◌*◌, ◌<◌, ◌≤◌, ◌&&◌, false, length, MatchResult, nat_le, slice_index};
+ghost use Rattle.metering.specs.Limits.{block_count};
 ghost use Rattle.methodology.specs.Limits.{head_limit};
 ghost use Rattle.agreements.specs.Limits.{due_limit};
+ghost use Rattle.agreements.specs.Dues.{capacity_due, block_sum};
 ghost use Rattle.accounts.specs.Limits.{place_limit, licensee_limit, month_energy_limit};
+ghost use Rattle.accounts.specs.Rules.{rules_of};
 ghost use Rattle.accounts.specs.Sums.{sum_to};
 ghost use Rattle.accounts.specs.Counts.{count_true};
+ghost use Rattle.accounts.specs.Tables.{under};
 
 use crate::delivery::{Delivery, LICENSEES};
+use crate::tables::{added, by_head, widened};
+use agreements::Dues;
+use agreements::limits::DUE_LIMIT;
+use metering::{Reading, index_of};
+use methodology::Methodology;
 use rates::HEADS;
-
-pub mod adding;
-pub mod tally;
 
 /// Most places that a market has, as the length of a list. A cast, since a constant cannot call `From`.
 pub const PLACES: usize = metering::PLACES as usize;
 
-/// What the readings of a month come to so far. Tables by head have head 1 first, lists place 1 or licensee 1. Income and
-/// energy stay two tables: each has a bound of its own, the law sums the income alone, and a table of both would be no plainer.
+/// What the readings of a month come to so far. Tables by head have head 1 first, lists place 1 or licensee 1.
 #[derive(Clone, Copy)]
 pub struct Month {
     /// Dues, in grains: for capacity at generation, for blocks at their interval, nothing at the revenues.
@@ -34,4 +39,164 @@ pub struct Month {
     ghost earned: { (k : ℕ) → k < head_limit → slice_index income k ≤ count_true read * due_limit },
     ghost whole: { sum_to (λ k. slice_index income k) head_limit ≤ count_true read * (2 * due_limit) },
     ghost supplied: { (k : ℕ) → k < head_limit → slice_index sent k ≤ count_true read * month_energy_limit },
+}
+
+impl Month {
+    ghost use Rattle.accounts.specs.Months.{Opened, readings_in, deliveries_in, read_at, delivered_at, reading_answer, delivery_answer, Generated, Delivered};
+
+    /// A month without readings.
+    pub fn open() -> Month
+        ensures { Opened result }
+    {
+        Month {
+            income: [0; HEADS],
+            sent: [0; HEADS],
+            read: [false; PLACES],
+            licensees: [None; LICENSEES],
+        }
+    }
+
+    /// How many places were read.
+    #[tactic(auto, unfolding(crate::specs::Counts::count_true))]
+    pub fn readings(&self) -> usize
+        ensures value { result ≡ readings_in self.now }
+        ensures bound { result ≤ place_limit }
+    {
+        self.read.iter().filter(|read| **read).count()
+    }
+
+    /// How many licensees delivered.
+    #[tactic(auto, unfolding(crate::specs::Counts::count_some))]
+    pub fn deliveries(&self) -> usize
+        ensures value { result ≡ deliveries_in self.now }
+        ensures bound { result ≤ licensee_limit }
+    {
+        self.licensees
+            .iter()
+            .filter(|licensee| licensee.is_some())
+            .count()
+    }
+
+    /// Whether a place was read. Places count from 1; one that no market has was not.
+    pub fn is_read(&self, place: u8) -> bool
+        ensures { result ≡ (nat_le 1 place && read_at self.now place) }
+    {
+        index_of(usize::from(place), PLACES).is_some_and(|i| self.read[i])
+    }
+
+    /// Whether a licensee delivered. Licensees count from 1; one that no market has did not.
+    pub fn has_delivered(&self, licensee: u8) -> bool
+        ensures { result ≡ (nat_le 1 licensee && delivered_at self.now licensee) }
+    {
+        index_of(usize::from(licensee), LICENSEES)
+            .and_then(|i| self.licensees.get(i))
+            .is_some_and(|delivery| delivery.is_some())
+    }
+
+    /// Adds a generator's reading with its dues, or leaves the month as it was.
+    pub fn add_reading<M: Methodology>(
+        &mut self,
+        m: &M,
+        reading: &Reading,
+        dues: &Dues,
+    ) -> Result<(), Unadded>
+        ensures answered { result ≡ reading_answer self.old reading.now dues.now }
+        ensures after { MatchResult result (λ _. Generated (rules_of M.shape (M.meaning m.now)) self.old reading.now dues.now self.new) (λ _. self.new ≡ self.old) }
+    {
+        if self.is_read(reading.number) {
+            return Err(Unadded::Again);
+        }
+        let limit = u128::from(DUE_LIMIT);
+        if dues.capacity_due() > limit || dues.block_sum() > limit {
+            return Err(Unadded::Ceiling);
+        }
+        *self = self.with_reading(m, reading, dues);
+        Ok(())
+    }
+
+    /// Adds a licensee's reading, or leaves the month as it was.
+    pub fn add_delivery<M: Methodology>(
+        &mut self,
+        m: &M,
+        reading: &Reading,
+    ) -> Result<(), Undelivered>
+        ensures answered { result ≡ delivery_answer self.old reading.now }
+        ensures after { MatchResult result (λ _. Delivered (rules_of M.shape (M.meaning m.now)) self.old reading.now self.new) (λ _. self.new ≡ self.old) }
+    {
+        if usize::from(reading.number) > LICENSEES {
+            return Err(Undelivered::NoLicensee);
+        }
+        if self.has_delivered(reading.number) {
+            return Err(Undelivered::Again);
+        }
+        *self = self.with_delivery(m, reading);
+        Ok(())
+    }
+
+    /// The month with a generator's reading.
+    fn with_reading<M: Methodology>(&self, m: &M, reading: &Reading, dues: &Dues) -> Month
+        requires unread { read_at self.now reading.now.number ≡ false }
+        requires moderate { (capacity_due dues.now ≤ due_limit) × (block_sum dues.now ≤ due_limit) }
+        ensures { Generated (rules_of M.shape (M.meaning m.now)) self.now reading.now dues.now result }
+    {
+        let mut read = self.read;
+        read[usize::from(reading.number) - 1] = true;
+        Month {
+            income: self.income_with(m, dues),
+            sent: self.sent_with(m, reading),
+            read,
+            licensees: self.licensees,
+        }
+    }
+
+    /// Its income by head, and the dues on top of it.
+    fn income_with<M: Methodology>(&self, m: &M, dues: &Dues) -> [u64; HEADS]
+        requires { (capacity_due dues.now ≤ due_limit) × (block_sum dues.now ≤ due_limit) }
+        ensures value { (k : ℕ) → k < head_limit → slice_index result k ≡ slice_index self.now.income k + under M.shape.revenues (M.meaning m.now).interval (capacity_due dues.now) 0 dues.now.blocks k }
+        ensures full { length dues.now.blocks ≡ block_count }
+    {
+        added(&self.income, &by_head(m, dues.capacity, 0, &dues.blocks))
+    }
+
+    /// Its energy sent in by head, and the reading's on top of it.
+    fn sent_with<M: Methodology>(&self, m: &M, reading: &Reading) -> [u64; HEADS]
+        ensures { (k : ℕ) → k < head_limit → slice_index result k ≡ slice_index self.now.sent k + under M.shape.revenues (M.meaning m.now).interval 0 0 reading.now.blocks k }
+    {
+        added(&self.sent, &by_head(m, 0, 0, &widened(&reading.blocks)))
+    }
+
+    /// The month with a licensee's reading.
+    fn with_delivery<M: Methodology>(&self, m: &M, reading: &Reading) -> Month
+        requires { (reading.now.number ≤ licensee_limit) × (delivered_at self.now reading.now.number ≡ false) }
+        ensures { Delivered (rules_of M.shape (M.meaning m.now)) self.now reading.now result }
+    {
+        let demand = u64::from(reading.demand);
+        let taken = by_head(m, demand, demand, &widened(&reading.blocks));
+        let mut licensees = self.licensees;
+        licensees[usize::from(reading.number) - 1] = Some(Delivery { taken });
+        Month {
+            income: self.income,
+            sent: self.sent,
+            read: self.read,
+            licensees,
+        }
+    }
+}
+
+/// Why a generator's reading is not added to a month.
+#[derive(Clone, Copy, PartialEq, Eq, Debug)]
+pub enum Unadded {
+    /// The place was read already.
+    Again,
+    /// The capacity due or the block sum is over the ceiling.
+    Ceiling,
+}
+
+/// Why a licensee's reading is not added to a month.
+#[derive(Clone, Copy, PartialEq, Eq, Debug)]
+pub enum Undelivered {
+    /// There is no such licensee.
+    NoLicensee,
+    /// The licensee delivered already.
+    Again,
 }

@@ -3,8 +3,6 @@ use crate::delivery::LICENSEES;
 use methodology::Shape;
 use rates::HEADS;
 
-pub mod blank;
-
 /// A head's line: the rates, grains per kW or per kWh, and the account as it then stands, in grains.
 #[derive(Clone, Copy, Default)]
 pub struct HeadLine {
@@ -21,13 +19,31 @@ pub struct Billed {
     pub fraction: u64,
 }
 
-/// The month, 1 to 12, and the heads that its lines are for, head 1 first; licensee 1 stands first.
-/// Lines past the market's heads say nothing. The margin, in grains, is summed over the intervals.
+/// What a closing writes: the month, 1 to 12, the lines of the heads, head 1 first, and of the licensees, licensee 1 first.
+/// Lines past the heads of the shape are zero, as are all lines of a sheet that no closing has filled.
 #[derive(Clone, Copy)]
 pub struct Sheet {
     pub month: u8,
     pub shape: Shape,
     pub heads: [HeadLine; HEADS],
     pub licensees: [Option<Billed>; LICENSEES],
+    /// What the intervals keep back of their unit costs, summed, in grains.
     pub margin: i64,
+}
+
+impl Sheet {
+    ghost use Rattle.accounts.specs.Sheets.{Unfilled};
+
+    /// A sheet to lend to a closing: month 0, a line of zeros for each head of the shape, no licensee, and margin 0.
+    pub fn empty(shape: Shape) -> Sheet
+        ensures { Unfilled shape result }
+    {
+        Sheet {
+            month: 0,
+            shape,
+            heads: [HeadLine::default(); HEADS],
+            licensees: [None; LICENSEES],
+            margin: 0,
+        }
+    }
 }
