@@ -1,3 +1,4 @@
+pub mod Faults
 pub mod Closing
 pub mod Closed
 pub mod Law
