@@ -4,7 +4,7 @@ use Rattle.std.specs.Str.{bytes_eq}
 use Rattle.methodology.specs.Markets.{three_shape, two_shape}
 use Rattle.journal.specs.declared.market.Market.{Market}
 use Rattle.journal.specs.declared.market.Market.TheVariants.{Three, Two}
-use Rattle.journal.specs.declared.market.Heading.{Heading}
+use Rattle.journal.specs.declared.heading.Heading.{Heading}
 use Rattle.journal.specs.declared.name.Name.TheVariants.{Serial}
 use Rattle.journal.specs.declared.expected.Expected.{Expected}
 use Rattle.journal.specs.declared.expected.Expected.TheVariants.{MarketLine}

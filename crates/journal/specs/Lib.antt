@@ -3,7 +3,7 @@ pub mod Chain
 pub mod Fields
 pub mod Headings
 pub mod Verbs
-pub mod Calls
+pub mod Requests
 pub mod Places
 pub mod Lines
 pub mod Messages

@@ -4,24 +4,24 @@ use Rattle.std.specs.Str.{bytes_eq}
 use Rattle.agreements.specs.Meaning.{Meaning}
 use Rattle.banks.specs.Limits.{place_limit}
 use Rattle.stations.specs.Layers.{station_meaning}
-use Rattle.journal.specs.declared.draft.Draft.{Draft}
-use Rattle.journal.specs.declared.draft.Entry.{Entry}
+use Rattle.journal.specs.declared.draft.JournalDraft.{JournalDraft}
+use Rattle.journal.specs.declared.entry.Entry.{Entry}
 use Rattle.journal.specs.declared.market.Market.{Market}
-use Rattle.journal.specs.declared.market.Heading.{Heading}
+use Rattle.journal.specs.declared.heading.Heading.{Heading}
 use Rattle.journal.specs.declared.expected.Expected.{Expected}
 use Rattle.journal.specs.declared.expected.Expected.TheVariants.{StationOrCall, AnyCall, NoStation}
-use Rattle.journal.specs.declared.expected.Unreadable.{Unreadable}
-use Rattle.journal.specs.declared.expected.Unreadable.TheVariants.{Lacks, NoMemory}
+use Rattle.journal.specs.declared.unread.UnreadLine.{UnreadLine}
+use Rattle.journal.specs.declared.unread.UnreadLine.TheVariants.{Lacks, NoMemory}
 use Rattle.journal.specs.Chain.{◌>>=◌, must}
 use Rattle.journal.specs.Fields.{Words}
 use Rattle.journal.specs.Headings.{heading_of}
-use Rattle.journal.specs.Calls.{Call, call, request_of}
+use Rattle.journal.specs.Requests.{Asked, asked, request_of}
 use Rattle.journal.specs.Places.{station_of}
 
 -- a call and the number of its line
 pub record Note : Type 0 where
   pub line : ℕ
-  pub call : Call
+  pub call : Asked
 
 -- what lines have said: the market's heading, what the station of each place means, and the calls
 pub record Said : Type 0 where
@@ -30,16 +30,16 @@ pub record Said : Type 0 where
   pub notes : List Note
 
 abbrev pub note : Entry → Note
-note e = record { line = e.line; call = call e.request }
+note e = record { line = e.line; call = asked e.request }
 
-abbrev pub saying : Draft → Said
+abbrev pub saying : JournalDraft → Said
 saying d = record { heading = d.heading; places = map station_meaning d.stations.list.items; notes = map note d.entries.items }
 
 abbrev pub blank : Said
 blank = record { heading = None; places = []; notes = [] }
 
 -- a line turns what was said into what is said; want of memory promises nothing
-abbrev pub Turns : Result Said Expected → Result (Unit {0}) Unreadable → Said → Type 0
+abbrev pub Turns : Result Said Expected → Result (Unit {0}) UnreadLine → Said → Type 0
 Turns said (Ok _) after = said ≡ Ok after
 Turns said (Err (Lacks e)) after = said ≡ Err e
 Turns said (Err NoMemory) after = Unit {0}
@@ -79,3 +79,13 @@ by_heading (Some h) s line w ws = behind_heading s h.market line w ws
 unfoldable pub with_words : Said → ℕ → Words → Result Said Expected
 with_words s line [] = Ok s
 with_words s line (w ∷ ws) = by_heading s.heading s line w ws
+
+-- what was said before a station's line, a call's line, any line, turns into what is said after it
+abbrev pub AddsStation : JournalDraft → Words → Result (Unit {0}) UnreadLine → JournalDraft → Type 0
+AddsStation draft ws r after = Turns (with_station (saying draft) ws) r (saying after)
+
+abbrev pub AddsCall : JournalDraft → Market → ℕ → Words → Result (Unit {0}) UnreadLine → JournalDraft → Type 0
+AddsCall draft market line ws r after = Turns (with_call (saying draft) market line ws) r (saying after)
+
+abbrev pub AddsLine : JournalDraft → ℕ → Words → Result (Unit {0}) UnreadLine → JournalDraft → Type 0
+AddsLine draft line ws r after = Turns (with_words (saying draft) line ws) r (saying after)

@@ -10,13 +10,13 @@ use Rattle.journal.specs.declared.name.Name.{Name}
 use Rattle.journal.specs.declared.name.Name.TheVariants.{Contracted, Capacity, Energy, Kwh, First, Second, Index}
 use Rattle.journal.specs.declared.expected.Expected.{Expected}
 use Rattle.journal.specs.declared.expected.Expected.TheVariants.{Agreement, TwoPartLimits, QuotaLimits}
-use Rattle.journal.specs.declared.expected.Unreadable.{Unreadable}
-use Rattle.journal.specs.declared.expected.Unreadable.TheVariants.{Lacks, NoMemory}
+use Rattle.journal.specs.declared.unread.UnreadLine.{UnreadLine}
+use Rattle.journal.specs.declared.unread.UnreadLine.TheVariants.{Lacks, NoMemory}
 use Rattle.journal.specs.Chain.{◌>>=◌, must}
 use Rattle.journal.specs.Fields.{Words, single}
 
 -- a reading gives what the words say, by what its value means; want of memory promises nothing
-abbrev pub Gives : {A B : Type 0} → (B → A) → Result A Expected → Result B Unreadable → Type 0
+abbrev pub Gives : {A B : Type 0} → (B → A) → Result A Expected → Result B UnreadLine → Type 0
 Gives meaning said (Ok x) = said ≡ Ok (meaning x)
 Gives meaning said (Err (Lacks e)) = said ≡ Err e
 Gives meaning said (Err NoMemory) = Unit {0}

@@ -1,26 +1,22 @@
 //! What the lines so far have said.
 ghost use Rattle.std.specs.Prelude.{◌≡◌};
 ghost use Rattle.words.specs.Pieces.{left};
-ghost use Rattle.journal.specs.Lines.{Turns, saying, blank, others, with_station, with_call, with_words};
+ghost use Rattle.journal.specs.Lines.{saying, blank, others, AddsStation, AddsCall, AddsLine};
 
-use crate::call::Request;
-use crate::expected::{Expected, Unreadable};
-use crate::market::{Heading, Market, read_heading};
+use crate::entry::Entry;
+use crate::expected::Expected;
+use crate::heading::{Heading, read_heading};
+use crate::market::Market;
 use crate::station::read_station;
+use crate::unread::UnreadLine;
 use banks::Unplaced;
 use stations::Stations;
 use std::alloc::Global;
 use words::{Words, is_word};
 
-/// A call, and the number of its line, counted from 1.
-#[derive(Clone, Copy)]
-pub struct Entry<'a> {
-    pub line: usize,
-    pub request: Request<'a>,
-}
-
+/// A journal of which some lines are read.
 #[derive(Drop)]
-pub struct Draft<'a> {
+pub struct JournalDraft<'a> {
     /// What the stations are allocated from.
     heap: Global,
     /// What the market's line has said.
@@ -29,12 +25,12 @@ pub struct Draft<'a> {
     pub entries: Vec<Entry<'a>>,
 }
 
-impl<'a> Draft<'a> {
+impl<'a> JournalDraft<'a> {
     /// Before the first line.
-    pub fn blank(heap: Global) -> Draft<'a>
+    pub fn blank(heap: Global) -> JournalDraft<'a>
         ensures { saying result ≡ blank }
     {
-        Draft {
+        JournalDraft {
             heap,
             heading: None,
             stations: Stations::new(heap),
@@ -53,33 +49,34 @@ impl<'a> Draft<'a> {
         }
     }
 
-    /// A station's line, behind the word that begins it.
+    /// Takes a station's line, from behind the word that begins it.
     #[tactic(auto, unfolding(crate::specs::Lines::with_station))]
-    fn add_station(&mut self, words: Words) -> Result<(), Unreadable>
-        ensures { Turns (with_station (saying self.old) (left words.entry)) result (saying self.new) }
+    fn add_station(&mut self, words: Words) -> Result<(), UnreadLine>
+        ensures { AddsStation self.old (left words.entry) result self.new }
     {
         let station = read_station(self.heap, words)?;
         match self.stations.push(station) {
             Ok(()) => Ok(()),
-            Err(Unplaced::Full(_)) => Err(Unreadable::Lacks(Expected::NoStation)),
-            Err(Unplaced::NoMemory(_)) => Err(Unreadable::NoMemory),
+            Err(Unplaced::Full(_)) => Err(UnreadLine::Lacks(Expected::NoStation)),
+            Err(Unplaced::NoMemory(_)) => Err(UnreadLine::NoMemory),
         }
     }
 
-    /// A call's line.
+    /// Takes a call's line.
     #[tactic(auto, unfolding(crate::specs::Lines::with_call))]
-    fn add_call(&mut self, market: Market, line: usize, words: Words<'a>) -> Result<(), Unreadable>
-        ensures { Turns (with_call (saying self.old) market line (left words.entry)) result (saying self.new) }
+    fn add_call(&mut self, market: Market, line: usize, words: Words<'a>) -> Result<(), UnreadLine>
+        ensures { AddsCall self.old market line (left words.entry) result self.new }
     {
         let request = market.request(words, self.others())?;
         self.entries.push(Entry { line, request })?;
         Ok(())
     }
 
-    /// One more line, by its number and its words.
+    /// Takes the next line, by its number and its words. A line of no words says nothing; the first that has some is the
+    /// market's.
     #[tactic(auto, unfolding(crate::specs::Lines::with_words, crate::specs::Lines::with_heading))]
-    pub fn add_line(&mut self, line: usize, words: Words<'a>) -> Result<(), Unreadable>
-        ensures { Turns (with_words (saying self.old) line (left words.entry)) result (saying self.new) }
+    pub fn add_line(&mut self, line: usize, words: Words<'a>) -> Result<(), UnreadLine>
+        ensures { AddsLine self.old line (left words.entry) result self.new }
     {
         let mut behind = words;
         let Some(first) = behind.next() else {

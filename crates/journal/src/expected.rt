@@ -1,9 +1,14 @@
 //! What a line that cannot be read should have said.
-ghost use Rattle.std.specs.Prelude.{◌≡◌};
+ghost use Rattle.std.specs.Prelude.{Some};
+ghost use Rattle.journal.specs.Messages.{expected_text};
 
 use crate::name::Name;
-use std::alloc::AllocFailed;
+use agreements::limits::{CAPACITY_PRICE_LIMIT, CONTRACTED_LIMIT, ENERGY_PRICE_LIMIT, QUOTA_LIMIT};
+use metering::PLACES;
+use std::fmt;
+use words::Counted;
 
+/// What was expected where a line cannot be read.
 #[derive(Clone, Copy)]
 pub enum Expected {
     /// The market's line, which comes first.
@@ -39,29 +44,58 @@ pub enum Expected {
     NoStation,
 }
 
-/// Why a line is not read.
-#[derive(Clone, Copy)]
-pub enum Unreadable {
-    Lacks(Expected),
-    NoMemory,
-}
+/// As `expected a file name`, or `'year' wants 2 figures, found 3`.
+impl fmt::Display for Expected {
+    ghost output = { λ e. Some (expected_text e) };
 
-impl From<Expected> for Unreadable {
-    ghost use Rattle.journal.specs.declared.expected.Unreadable.TheVariants.{Lacks};
-
-    ghost from_gives = { λ expected u. u ≡ Lacks expected };
-
-    fn from(expected: Expected) -> Unreadable {
-        Unreadable::Lacks(expected)
-    }
-}
-
-impl<T: Drop> From<AllocFailed<T>> for Unreadable {
-    ghost use Rattle.journal.specs.declared.expected.Unreadable.TheVariants.{NoMemory};
-
-    ghost from_gives = { λ _ u. u ≡ NoMemory };
-
-    fn from(_: AllocFailed<T>) -> Unreadable {
-        Unreadable::NoMemory
+    fn fmt<W: fmt::Write>(&self, f: &mut fmt::Formatter<W>) -> fmt::Result {
+        match *self {
+            Expected::MarketLine => {
+                f.write_str("expected 'market three serial NUMBER' or 'market two serial NUMBER'")
+            }
+            Expected::StationOrCall => f.write_str(
+                "expected 'station', 'year', 'tariff', 'meter', 'deliver', 'close', 'draw', 'release' or 'hold'",
+            ),
+            Expected::AnyCall => f.write_str(
+                "expected 'year', 'tariff', 'meter', 'deliver', 'close', 'draw', 'release' or 'hold'",
+            ),
+            Expected::Agreement => f.write_str("expected 'two-part' or 'quota'"),
+            Expected::Field(name) => write!(f, "expected '{name}'"),
+            Expected::Count {
+                name,
+                wanted,
+                found,
+            } => {
+                let figures = Counted {
+                    count: wanted,
+                    noun: "figure",
+                };
+                write!(f, "'{name}' wants {figures}, found {found}")
+            }
+            Expected::Most { name, most } => write!(f, "'{name}' wants figures of at most {most}"),
+            Expected::FileName => f.write_str("expected a file name"),
+            Expected::End => f.write_str("expected the end of the line"),
+            Expected::TwoPartLimits => {
+                let contracted = CONTRACTED_LIMIT;
+                let capacity = CAPACITY_PRICE_LIMIT;
+                let energy = ENERGY_PRICE_LIMIT;
+                write!(
+                    f,
+                    "a two-part agreement has 'contracted' at most {contracted}, 'capacity' at most {capacity}, 'energy' at most {energy}"
+                )
+            }
+            Expected::QuotaLimits => {
+                let quota = QUOTA_LIMIT;
+                let energy = ENERGY_PRICE_LIMIT;
+                write!(
+                    f,
+                    "a quota has 'kwh' at most {quota}, 'first' and 'second' at most {energy}"
+                )
+            }
+            Expected::NoStation => {
+                let places = PLACES;
+                write!(f, "expected at most {places} stations")
+            }
+        }
     }
 }

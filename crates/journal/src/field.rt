@@ -20,7 +20,6 @@ pub fn keyword(words: &mut Words, text: &str, expected: Expected) -> Result<(), 
 }
 
 /// Takes a name.
-/// Functions, here and below, and no struct of the two: `Words` is another crate's, and the name is another at each call.
 #[tactic(auto, unfolding(crate::specs::Fields::named))]
 pub fn named(words: &mut Words, name: Name) -> Result<(), Expected>
     ensures { Passes (named name (left words.old)) result (left words.new) }
@@ -49,7 +48,7 @@ fn run(words: &mut Words, name: Name) -> Result<Row, Expected>
         figures: [0; HEADS],
     };
     let mut ahead = *words;
-    // No `for`: it would take the word that ends the run, which is left to the next field.
+    // `words` stays before the word that ends the run: it is the next field's.
     while let Some(word) = ahead.next() {
         if !is_figure(word) {
             return Ok(row);

@@ -1,23 +1,26 @@
-//! The text of an operator's journal.
+//! An operator's journal: a text that names a market, its stations, and the calls to be made, a line for each.
 #![tactic(auto)]
 
-pub mod call;
 mod draft;
+pub mod entry;
 pub mod expected;
-pub mod fault;
 mod field;
+mod heading;
+pub mod journal;
 pub mod market;
 pub mod name;
-pub mod parse;
+pub mod request;
 mod station;
 #[cfg(test)]
 mod tests;
-mod verb;
+pub mod unread;
+pub mod verb;
 
-pub use call::Request;
-pub use draft::Entry;
+pub use entry::Entry;
 pub use expected::Expected;
-pub use fault::{Fault, Unread};
+pub use journal::{Journal, parse_journal};
 pub use market::Market;
 pub use name::Name;
-pub use parse::{Journal, parse_journal};
+pub use request::Request;
+pub use unread::{JournalFault, Unread};
+pub use verb::Verb;

@@ -5,9 +5,10 @@ ghost use Rattle.words.specs.Pieces.{left};
 ghost use Rattle.journal.specs.Fields.{Takes};
 ghost use Rattle.journal.specs.Places.{Gives, three_of, figures_of, layers, limits, station_of};
 
-use crate::expected::{Expected, Unreadable};
+use crate::expected::Expected;
 use crate::field::single;
 use crate::name::Name;
+use crate::unread::UnreadLine;
 use stations::{Figures, Station};
 use std::alloc::Global;
 use words::Words;
@@ -63,12 +64,12 @@ fn filed(words: &mut Words) -> Result<Figures, Expected>
 }
 
 /// The factors of the layers, the lowest first, to the end of the line.
-fn layers(heap: Global, mut words: Words) -> Result<Vec<u64>, Unreadable>
+fn layers(heap: Global, mut words: Words) -> Result<Vec<u64>, UnreadLine>
     ensures { Gives (λ v. v.items) (layers [] (left words.entry)) result }
 {
     let mut factors = Vec::new(heap);
     let mut ahead = words;
-    // No `for`: it would take the word that begins the layer, which `single` takes.
+    // `ahead` only looks whether a word is left: `single` takes it.
     while let Some(_) = ahead.next() {
         let factor = single(&mut words, Name::Index)?;
         factors.push(factor)?;
@@ -89,10 +90,10 @@ fn limits(figures: Figures) -> Expected
 
 /// Reads what stands behind the word that begins a station's line.
 #[tactic(auto, unfolding(crate::specs::Places::station_of))]
-pub fn read_station(heap: Global, mut words: Words) -> Result<Station, Unreadable>
+pub fn read_station(heap: Global, mut words: Words) -> Result<Station, UnreadLine>
     ensures { Gives station_meaning (station_of (left words.entry)) result }
 {
     let figures = filed(&mut words)?;
     let factors = layers(heap, words)?;
-    Station::new(figures, factors).map_err(|_| Unreadable::Lacks(limits(figures)))
+    Station::new(figures, factors).map_err(|_| UnreadLine::Lacks(limits(figures)))
 }

@@ -1,10 +1,12 @@
 //! The words with which calls begin.
-ghost use Rattle.std.specs.Prelude.{◌≡◌};
+ghost use Rattle.std.specs.Prelude.{◌≡◌, Some};
 ghost use Rattle.journal.specs.Verbs.{verb_text, verb_of};
 
+use std::fmt;
 use words::is_word;
 
-#[derive(Clone, Copy)]
+/// The calls of a house, each by its word.
+#[derive(Clone, Copy, PartialEq, Eq, Debug)]
 pub enum Verb {
     Year,
     Tariff,
@@ -28,9 +30,8 @@ impl Verb {
         Verb::Hold,
     ];
 
-    /// The word itself. `printout` has these words too: verbs are no matter of `words`, and `printout`'s come from calls of
-    /// `history`, by a `From` that must stand where one of its types does; one enum for both would need a crate below the two.
-    fn text(self) -> &'static str
+    /// The word itself.
+    pub fn text(self) -> &'static str
         ensures { result.now ≡ verb_text self }
     {
         match self {
@@ -53,5 +54,14 @@ impl Verb {
             .iter()
             .find(|verb| is_word(word, verb.text().as_bytes()))
             .copied()
+    }
+}
+
+/// As its word.
+impl fmt::Display for Verb {
+    ghost output = { λ verb. Some (verb_text verb) };
+
+    fn fmt<W: fmt::Write>(&self, f: &mut fmt::Formatter<W>) -> fmt::Result {
+        f.write_str(self.text())
     }
 }

@@ -3,8 +3,8 @@ use Rattle.std.specs.Prelude.{◌≡◌, ℕ, ◌+◌, List, [], ◌∷◌, Some
 use Rattle.std.specs.Borrow.{Bor}
 use Rattle.tariffs.specs.declared.row.Row.{Row}
 use Rattle.tariffs.specs.declared.filing.Filing.{Filing}
-use Rattle.journal.specs.declared.call.Request.{Request}
-use Rattle.journal.specs.declared.call.Request.TheVariants.{Year as IsYear, Tariff, Meter, Deliver, Close as IsClose, Draw as IsDraw, Release as IsRelease, Hold as IsHold}
+use Rattle.journal.specs.declared.request.Request.{Request}
+use Rattle.journal.specs.declared.request.Request.TheVariants.{Year as IsYear, Tariff, Meter, Deliver, Close as IsClose, Draw as IsDraw, Release as IsRelease, Hold as IsHold}
 use Rattle.journal.specs.declared.market.Market.{Market}
 use Rattle.journal.specs.declared.name.Name.TheVariants.{Year, Costs, Peaks, Energy, Sent, Delivered, Losses, Coefficients, Interest, Close, Draw, Release, Hold}
 use Rattle.journal.specs.declared.expected.Expected.{Expected}
@@ -17,29 +17,29 @@ use Rattle.journal.specs.Verbs.{verb_of}
 use Rattle.journal.specs.Headings.{revenues_of, intervals_of}
 
 -- what the house is asked to do
-pub data Call : Type 0 where
-  file_year : Row → Call
-  publish : Filing → Call
-  meter_file : List ℕ → Call
-  delivery_file : List ℕ → Call
-  close_month : (readings deliveries : ℕ) → Call
-  draw_at : ℕ → Call
-  release_order : ℕ → Call
-  hold_order : ℕ → Call
+pub data Asked : Type 0 where
+  file_year : Row → Asked
+  publish : Filing → Asked
+  meter_file : List ℕ → Asked
+  delivery_file : List ℕ → Asked
+  close_month : (readings deliveries : ℕ) → Asked
+  draw_at : ℕ → Asked
+  release_order : ℕ → Asked
+  hold_order : ℕ → Asked
 
 -- a request says it
-abbrev pub call : Request → Call
-call (IsYear revenues) = file_year revenues
-call (Tariff filing) = publish filing
-call (Meter name) = meter_file name.now
-call (Deliver name) = delivery_file name.now
-call (IsClose readings deliveries) = close_month readings deliveries
-call (IsDraw place) = draw_at place
-call (IsRelease order) = release_order order
-call (IsHold order) = hold_order order
+abbrev pub asked : Request → Asked
+asked (IsYear revenues) = file_year revenues
+asked (Tariff filing) = publish filing
+asked (Meter name) = meter_file name.now
+asked (Deliver name) = delivery_file name.now
+asked (IsClose readings deliveries) = close_month readings deliveries
+asked (IsDraw place) = draw_at place
+asked (IsRelease order) = release_order order
+asked (IsHold order) = hold_order order
 
-abbrev pub Tells : Result Call Expected → Result Request Expected → Type 0
-Tells said (Ok r) = said ≡ Ok (call r)
+abbrev pub Tells : Result Asked Expected → Result Request Expected → Type 0
+Tells said (Ok r) = said ≡ Ok (asked r)
 Tells said (Err e) = said ≡ Err e
 
 -- the name of a meter file
@@ -63,7 +63,7 @@ TellsName said (Ok name) = said ≡ Ok name.now
 TellsName said (Err e) = said ≡ Err e
 
 -- a line that says this and no more
-abbrev pub whole : {A : Type 0} → (A → Call) → Result (A × Words) Expected → Result Call Expected
+abbrev pub whole : {A : Type 0} → (A → Asked) → Result (A × Words) Expected → Result Asked Expected
 whole make said = do
   x ← alone said
   Ok (make x)
@@ -82,39 +82,39 @@ filing_of market ws = do
   let filing : Filing = record { costs = costs; peaks = peaks; energy_cost = energy_cost; sent = sent; delivered = delivered; factors = factors; coefficients = coefficients; interest = interest }
   Ok (filing, ws)
 
-unfoldable pub year_of : Market → Words → Result Call Expected
+unfoldable pub year_of : Market → Words → Result Asked Expected
 year_of market ws = whole file_year (field Year (revenues_of market) ws)
 
-unfoldable pub tariff_of : Market → Words → Result Call Expected
+unfoldable pub tariff_of : Market → Words → Result Asked Expected
 tariff_of market ws = whole publish (filing_of market ws)
 
-unfoldable pub meter_of : Words → Result Call Expected
+unfoldable pub meter_of : Words → Result Asked Expected
 meter_of ws = whole meter_file (file_of ws)
 
-unfoldable pub deliver_of : Words → Result Call Expected
+unfoldable pub deliver_of : Words → Result Asked Expected
 deliver_of ws = whole delivery_file (file_of ws)
 
-unfoldable pub close_of : Words → Result Call Expected
+unfoldable pub close_of : Words → Result Asked Expected
 close_of ws = whole (λ counts. close_month (slice_index counts.figures 0) (slice_index counts.figures 1)) (field Close 2 ws)
 
 -- a place is of 8 bits
-abbrev pub place_of : ℕ → Result Call Expected
+abbrev pub place_of : ℕ → Result Asked Expected
 place_of n = must (nat_le n 255) (Most Draw 255) (Ok (draw_at n))
 
-unfoldable pub draw_of : Words → Result Call Expected
+unfoldable pub draw_of : Words → Result Asked Expected
 draw_of ws = do
   (n, ws) ← single Draw ws
   _ ← ended ws
   place_of n
 
-unfoldable pub release_of : Words → Result Call Expected
+unfoldable pub release_of : Words → Result Asked Expected
 release_of ws = whole release_order (single Release ws)
 
-unfoldable pub hold_of : Words → Result Call Expected
+unfoldable pub hold_of : Words → Result Asked Expected
 hold_of ws = whole hold_order (single Hold ws)
 
 -- what a line says that begins with a verb
-abbrev pub by_verb : Verb → Market → List ℕ → Words → Result Call Expected
+abbrev pub by_verb : Verb → Market → List ℕ → Words → Result Asked Expected
 by_verb YearVerb market w ws = year_of market (w ∷ ws)
 by_verb TariffVerb market w ws = tariff_of market ws
 by_verb MeterVerb market w ws = meter_of ws
@@ -124,11 +124,11 @@ by_verb DrawVerb market w ws = draw_of (w ∷ ws)
 by_verb ReleaseVerb market w ws = release_of (w ∷ ws)
 by_verb HoldVerb market w ws = hold_of (w ∷ ws)
 
-abbrev pub by_first : Option Verb → Market → Expected → List ℕ → Words → Result Call Expected
+abbrev pub by_first : Option Verb → Market → Expected → List ℕ → Words → Result Asked Expected
 by_first None market other w ws = Err other
 by_first (Some verb) market other w ws = by_verb verb market w ws
 
 -- a call by its first word; where it begins as none does, the other was expected
-unfoldable pub request_of : Market → Expected → Words → Result Call Expected
+unfoldable pub request_of : Market → Expected → Words → Result Asked Expected
 request_of market other [] = Err other
 request_of market other (w ∷ ws) = by_first (verb_of w) market other w ws

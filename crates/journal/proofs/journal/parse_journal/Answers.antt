@@ -6,7 +6,7 @@ use Rattle.words.proofs.Cut.{lines_few, numbered_first, numbered_none}
 use Rattle.journal.specs.Lines.{saying, Turns, with_words}
 use Rattle.journal.specs.Text.{Reads, read_on, journal_of}
 use Rattle.journal.proofs.Reading.{line_stops, line_goes, lines_end}
-use Rattle.journal.proofs.parse.parse_journal.Goals as goal
+use Rattle.journal.proofs.journal.parse_journal.Goals as goal
 
 pub loop-line-init : goal.loop-line-init
 unfolding journal_of

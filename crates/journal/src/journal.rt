@@ -1,12 +1,13 @@
 //! Reading the text of a journal.
 ghost use Rattle.std.specs.Prelude.{◌≡◌, ◌+◌, ◌^◌, ◌<◌};
 ghost use Rattle.journal.specs.Lines.{saying};
-ghost use Rattle.journal.specs.Text.{Reads, finished, unread_at, journal_of};
+ghost use Rattle.journal.specs.Text.{Reads, finished, journal_of};
 
-use crate::draft::{Draft, Entry};
-use crate::expected::{Expected, Unreadable};
-use crate::fault::{Fault, Unread};
+use crate::draft::JournalDraft;
+use crate::entry::Entry;
+use crate::expected::Expected;
 use crate::market::Market;
+use crate::unread::{JournalFault, Unread};
 use stations::Stations;
 use std::alloc::Global;
 use words::{Lines, Words};
@@ -15,18 +16,20 @@ use words::{Lines, Words};
 #[derive(Drop)]
 pub struct Journal<'a> {
     pub market: Market,
+    /// The number that the house's pay orders bear.
     pub serial: u64,
+    /// Place 1 first.
     pub stations: Stations,
     pub entries: Vec<Entry<'a>>,
 }
 
-/// The journal, if the last of `lines` lines leaves nothing to be said.
-fn finish<'a>(draft: Draft<'a>, lines: usize) -> Result<Journal<'a>, Unread>
+/// The journal, if nothing is left to be said after the last of `lines` lines.
+fn finish<'a>(draft: JournalDraft<'a>, lines: usize) -> Result<Journal<'a>, Unread>
     requires { lines + 1 < 2 ^ 64 }
     ensures { Reads (finished lines (saying draft.entry)) result }
 {
     let Some(heading) = draft.heading else {
-        return Err(Unread::At(Fault {
+        return Err(Unread::At(JournalFault {
             line: lines + 1,
             expected: Expected::MarketLine,
         }));
@@ -39,26 +42,16 @@ fn finish<'a>(draft: Draft<'a>, lines: usize) -> Result<Journal<'a>, Unread>
     })
 }
 
-/// Why a text is not read, one of whose lines is not read.
-fn unread_at(line: usize, why: Unreadable) -> Unread
-    ensures { result ≡ unread_at line why }
-{
-    match why {
-        Unreadable::Lacks(expected) => Unread::At(Fault { line, expected }),
-        Unreadable::NoMemory => Unread::NoMemory,
-    }
-}
-
 /// The journal in a text, or the first line that cannot be read and what was expected there.
 pub fn parse_journal<'a>(heap: Global, text: &'a [u8]) -> Result<Journal<'a>, Unread>
     ensures { Reads (journal_of text.now) result }
 {
-    let mut draft = Draft::blank(heap);
+    let mut draft = JournalDraft::blank(heap);
     let mut last = 0;
     for (line, bytes) in Lines::of(text) {
         draft
             .add_line(line, Words::of(bytes))
-            .map_err(|why| unread_at(line, why))?;
+            .map_err(|why| why.at(line))?;
         last = line;
     }
     finish(draft, last)

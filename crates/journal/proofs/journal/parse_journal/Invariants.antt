@@ -2,7 +2,7 @@ use Rattle.std.proofs.Common.{◌≡◌, ℕ, ◌+◌, ◌≤◌, List, length}
 use Rattle.words.specs.Numbered.{numbered, lines_left}
 use Rattle.journal.specs.Lines.{saying}
 use Rattle.journal.specs.Text.{read_on, journal_of}
-use Rattle.journal.proofs.parse.parse_journal.Given as goal
+use Rattle.journal.proofs.journal.parse_journal.Given as goal
 
 -- what is left gives what the whole gives
 abbrev pub invariant-loop-line : goal.invariant-loop-line
