@@ -2,7 +2,8 @@ pub mod Limits
 pub mod Kinds
 pub mod Blocks
 pub mod Verdict
+pub mod Refusals
 pub mod Figures
 pub mod Makes
 pub mod Text
-pub mod Most
+pub mod lemmas

@@ -3,7 +3,7 @@ ghost use Rattle.std.specs.Prelude.{◌≡◌, ◌<◌, is_some, IfSome, Some, n
 ghost use Rattle.metering.specs.Limits.{block_count};
 ghost use Rattle.metering.specs.Text.{clock_text, half_hour_text};
 
-use crate::reading::BLOCKS;
+use crate::limits::BLOCKS;
 use std::fmt;
 
 /// A time of day, counted in half-hours after midnight: 11 is 05:30.
@@ -28,8 +28,7 @@ pub struct HalfHour {
 }
 
 impl HalfHour {
-    /// The half-hour of a block, if the day has that block. An Option and no `TryFrom`: the refusal of a block is
-    /// `Refusal::Energy` in figures and none where a half-hour is asked for.
+    /// The half-hour of a block, if the day has that block.
     pub fn of(block: usize) -> Option<HalfHour>
         ensures test { is_some result ≡ nat_lt block block_count }
         ensures found { IfSome result (λ h. h.block ≡ block) }

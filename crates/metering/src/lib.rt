@@ -5,13 +5,18 @@ pub mod figures;
 pub mod half_hour;
 pub mod header;
 pub mod index;
+pub mod kind;
+pub mod limits;
 pub mod reading;
-pub mod refusal;
+pub mod short_buffer;
 
-pub use figures::{Figures, make_reading};
+pub use figures::{Figures, FiguresRefusal, make_reading};
 pub use half_hour::HalfHour;
-pub use header::{Header, header_of};
+pub use header::{BlockRefusal, Header, HeaderRefusal};
 pub use index::index_of;
-pub use reading::number::UnknownKind;
-pub use reading::{BLOCKS, DEMAND_LIMIT, ENERGY_LIMIT, Kind, LICENSEES, PLACES, Reading};
-pub use refusal::Refusal;
+pub use kind::{Kind, UnknownKind};
+pub use limits::{
+    BLOCKS, DEMAND_LIMIT, ENERGY_LIMIT, LICENSEE_COUNT, LICENSEES, PLACE_COUNT, PLACES,
+};
+pub use reading::Reading;
+pub use short_buffer::ShortBuffer;
