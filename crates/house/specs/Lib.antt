@@ -1,1 +1,3 @@
+pub mod Placed
 pub mod Shown
+pub mod Calls

@@ -6,11 +6,11 @@ use Rattle.methodology.specs.Meaning.{Meaning as Market}
 use Rattle.methodology.specs.declared.rules.Methodology.{Ghosts as MarketGhosts}
 use Rattle.methodology.specs.declared.shape.Shape.{Shape}
 use Rattle.ledger.specs.Views.{View}
-use Rattle.house.specs.declared.state.House.{House}
+use Rattle.house.specs.declared.house.House.{House}
 
 -- by the meanings of its bank and of its methodology
-abbrev pub shows : {B M : Type 0} → BankGhosts B → MarketGhosts M → House B M → View
-shows bank methodology h =
+abbrev pub shows : {B M : Type 0} {bank : BankGhosts B} {methodology : MarketGhosts M} → House B M bank methodology → View
+shows {bank = bank} {methodology = methodology} h =
     record { shape = methodology.shape; market = methodology.meaning h.methodology; row = bank.row h.bank; ledger = h.ledger }
 
 -- a house over this market and these agreements

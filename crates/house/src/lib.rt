@@ -1,11 +1,6 @@
 //! The settlement house: a bank, a methodology and a ledger under eight calls.
 #![tactic(auto)]
 
-pub mod made;
-pub mod months;
-pub mod payments;
-pub mod readings;
-pub mod state;
-pub mod years;
+pub mod house;
 
-pub use state::House;
+pub use house::House;

@@ -36,7 +36,7 @@ pub fn put_off<B: Bank, M: Methodology>(
     house: &mut House<B, M>,
     order: PayOrder,
 ) -> Result<Settled, Returned>
-    ensures { PutsOff (shows B.Bank M.Methodology house.old) order result (shows B.Bank M.Methodology house.new) }
+    ensures { PutsOff (shows house.old) order result (shows house.new) }
 {
     let paid = paid_by(&order);
     house.hold(order)?;
@@ -49,7 +49,7 @@ pub fn present<B: Bank, M: Methodology>(
     owner: &mut House<B, M>,
     order: PayOrder,
 ) -> Result<Settled, Returned>
-    ensures { Presents (shows B.Bank M.Methodology desk.old) (shows B.Bank M.Methodology owner.old) order result (shows B.Bank M.Methodology desk.new) (shows B.Bank M.Methodology owner.new) }
+    ensures { Presents (shows desk.old) (shows owner.old) order result (shows desk.new) (shows owner.new) }
 {
     let paid = paid_by(&order);
     match desk.release(order) {
@@ -69,7 +69,7 @@ pub fn settle_one<B: Bank, M: Methodology>(
     place: u8,
     most: u64,
 ) -> Result<Settled, Refusal>
-    ensures { Settles most (shows B.Bank M.Methodology house.old) place result (shows B.Bank M.Methodology house.new) }
+    ensures { Settles most (shows house.old) place result (shows house.new) }
 {
     let order = house.draw(place)?;
     let paid = paid_by(&order);
@@ -88,7 +88,7 @@ pub fn settle_elsewhere<B: Bank, M: Methodology>(
     owner: &mut House<B, M>,
     place: u8,
 ) -> Result<Settled, Refusal>
-    ensures { Elsewhere (shows B.Bank M.Methodology desk.old) (shows B.Bank M.Methodology owner.old) place result (shows B.Bank M.Methodology desk.new) (shows B.Bank M.Methodology owner.new) }
+    ensures { Elsewhere (shows desk.old) (shows owner.old) place result (shows desk.new) (shows owner.new) }
 {
     let order = owner.draw(place)?;
     Ok(present(desk, owner, order).unwrap())

@@ -9,7 +9,7 @@ use stations::Stations;
 
 /// A journal's list, what was performed of it, and how many places the market has.
 #[derive(Drop)]
-pub struct Outcome<'a, M> {
+pub struct Outcome<'a, M: Methodology> {
     pub list: &'a List,
     pub performance: &'a Performance<Stations, M>,
     pub places: u8,

@@ -3,7 +3,7 @@ ghost use Rattle.std.specs.Prelude.{◌≡◌};
 ghost use Rattle.sheet.specs.Text.{sheet_text};
 ghost use Rattle.worked_cases.specs.FirstMonth.{first_text, FirstRun};
 ghost use Rattle.worked_cases.specs.Cases.{WorkedCases};
-ghost use Rattle.worked_cases.specs.House.{shown};
+ghost use Rattle.house.specs.Shown.{shows};
 
 use accounts::Sheet;
 use agreements::TwoPart;
@@ -25,7 +25,7 @@ pub struct FirstMonth {
 /// Files a year and a tariff, takes one reading from each side, and closes the month.
 pub fn first_month(serial: u64) -> FirstMonth
     ensures text { sheet_text result.sheet ≡ first_text }
-    ensures run { FirstRun serial result.sheet (shown result.house) }
+    ensures run { FirstRun serial result.sheet (shows result.house) }
     ensures cases { WorkedCases }
 {
     let mut house = House::new(One::new(agreement()), ThreeIntervals, serial);

@@ -104,7 +104,7 @@ pub fn statement<B: Bank, M: Methodology>(
     calls: &[Call],
     performed: &Performance<B, M>,
 ) -> Option<Statement>
-    ensures stated { IfSome result (λ s. (market : Market) (row : List Meaning) (serial : ℕ) (others : List (Option PayOrder)) → Stated M.Methodology.shape market row serial others calls.now performed.now.answers.items (slots_of performed.now.hand) (shows B.Bank M.Methodology performed.now.house) s) }
+    ensures stated { IfSome result (λ s. (market : Market) (row : List Meaning) (serial : ℕ) (others : List (Option PayOrder)) → Stated M.Methodology.shape market row serial others calls.now performed.now.answers.items (slots_of performed.now.hand) (shows performed.now.house) s) }
     ensures none { result ≡ None → length performed.now.answers.items ≡ length calls.now → call_limit < length calls.now }
 {
     let answers = performed.answers.as_slice();

@@ -4,7 +4,7 @@ use Rattle.agreements.specs.Dues.{capacity_due, block_sum}
 use Rattle.banks.specs.Rows.{at_place, written_at}
 use Rattle.ledger.specs.Terms.{dues_at}
 use Rattle.house.proofs.Dues.{dues_within}
-use Rattle.house.proofs.state.House.dues.Goals as goal
+use Rattle.house.proofs.house.House.dues.Goals as goal
 
 pub overflow_add-capacity_due : goal.overflow_add-capacity_due
 overflow_add-capacity_due g c =

@@ -1,7 +1,7 @@
 use Rattle.std.proofs.Common.{refl}
 use Rattle.settlement.proofs.Keeping.{every_closing}
 use Rattle.ledger.proofs.Months.{every_run}
-use Rattle.house.proofs.state.House.new.Goals as goal
+use Rattle.house.proofs.house.House.new.Goals as goal
 
 pub returns : goal.returns
 returns g c =

@@ -1,0 +1,242 @@
+//! A house, and the eight calls that may be made of it.
+ghost use Rattle.std.specs.Prelude.{◌≡◌, ◌≤◌, length};
+ghost use Rattle.banks.specs.Limits.{place_limit};
+ghost use Rattle.ledger.specs.Views.{first_month, after_month};
+ghost use Rattle.house.specs.Placed.{Placed};
+
+use accounts::{Books, Month, Sheet};
+use agreements::Dues;
+use arith::months::MONTHS;
+use banks::Bank;
+use closing::close;
+use ledger::{Half, Ledger, Refusal, Stage};
+use metering::{Kind, Reading};
+use methodology::Methodology;
+use orders::{Paid, PayOrder, Returned, Till};
+use rates::{Rates, Revenues};
+use tariffs::{Filing, Row, file_year, publish};
+
+/// The stations' agreements, the market's methodology, and all that is kept in plain numbers. It stands at one place of the
+/// year at a time: a year is filed, then a tariff, then six months are closed, then a tariff and six months again.
+#[derive(Drop)]
+pub struct House<B: Bank, M: Methodology> {
+    pub(crate) bank: B,
+    pub(crate) methodology: M,
+    pub(crate) ledger: Ledger,
+    ghost few: { length (B.Bank.row bank) ≤ place_limit },
+    ghost placed: { Placed M.Methodology.shape (M.Methodology.meaning methodology) },
+}
+
+/// The last month of the first half-year.
+const HALF_YEAR: u8 = 6;
+
+/// Where a house stands once a month is closed.
+fn after_month(number: u8) -> Stage
+    ensures { result ≡ after_month number }
+{
+    if number == HALF_YEAR {
+        Stage::BeforeTariff(Half::Second)
+    } else if u64::from(number) >= MONTHS {
+        Stage::BeforeYear
+    } else {
+        Stage::InMonth(number + 1)
+    }
+}
+
+/// The month that a tariff opens.
+fn first_month(half: Half) -> Stage
+    ensures { result ≡ first_month half }
+{
+    match half {
+        Half::First => Stage::InMonth(1),
+        Half::Second => Stage::InMonth(7),
+    }
+}
+
+impl<B: Bank, M: Methodology> House<B, M> {
+    ghost use Rattle.std.specs.Prelude.{IfOk};
+    ghost use Rattle.banks.specs.Rows.{at_place};
+    ghost use Rattle.ledger.specs.Calls.{NewHouse};
+    ghost use Rattle.ledger.specs.Law.{EveryRun};
+    ghost use Rattle.ledger.specs.Terms.{dues_at};
+    ghost use Rattle.ledger.specs.Verdicts.{said};
+    ghost use Rattle.house.specs.Shown.{shows, Over};
+    ghost use Rattle.house.specs.Calls.{Year, Tariff, meter_verdict, Meter, Deliver, Close, Draw, Release, Hold};
+
+    /// A house over a bank and a methodology. Its serial number should be one that no other house bears.
+    /// It stands before a year, with amounts 0, and the bank's standings are as they were.
+    pub fn new(bank: B, methodology: M, serial: u64) -> House<B, M>
+        ensures made { NewHouse serial (shows result) }
+        ensures over { Over M.Methodology.shape (M.Methodology.meaning methodology) (B.Bank.row bank) (shows result) }
+        ensures law { EveryRun M.Methodology.shape (M.Methodology.meaning methodology) (B.Bank.row bank) serial }
+    {
+        let ledger = Ledger {
+            stage: Stage::BeforeYear,
+            revenues: Revenues::none(),
+            rates: Rates::unset(M::shape()),
+            books: Books::new(),
+            month: Month::open(),
+            till: Till::new(serial),
+        };
+        House {
+            bank,
+            methodology,
+            ledger,
+        }
+    }
+
+    /// All that the house keeps in plain numbers.
+    pub fn ledger(&self) -> &Ledger
+        ensures { result.now ≡ self.now.ledger }
+    {
+        &self.ledger
+    }
+
+    /// Files the allowed revenues of a year, in cents.
+    pub fn year(&mut self, filed: &Row) -> Result<(), Refusal>
+        ensures { Year self.old filed.now result self.new }
+    {
+        if self.ledger.stage != Stage::BeforeYear {
+            return Err(Refusal::NotNow);
+        }
+        let revenues = file_year(M::shape(), filed)?;
+        self.ledger.revenues = revenues;
+        self.ledger.stage = Stage::BeforeTariff(Half::First);
+        Ok(())
+    }
+
+    /// Publishes a tariff, and opens the first month of its half-year.
+    pub fn tariff(&mut self, filing: &Filing) -> Result<(), Refusal>
+        ensures { Tariff self.old filing.now result self.new }
+    {
+        let Stage::BeforeTariff(half) = self.ledger.stage else {
+            return Err(Refusal::NotNow);
+        };
+        let earlier = self.ledger.books.earlier();
+        let rates = publish(M::shape(), filing, &earlier)?;
+        self.ledger.rates = rates;
+        self.ledger.books.begin_period();
+        self.ledger.stage = first_month(half);
+        Ok(())
+    }
+
+    /// What the reading's station is due, if meter accepts it.
+    fn dues(&self, reading: &Reading) -> Result<Dues, Refusal>
+        ensures said { said result ≡ meter_verdict self.now reading.now }
+        ensures due { IfOk result (λ d. d ≡ dues_at (at_place (B.Bank.row self.now.bank) reading.now.number) reading.now) }
+    {
+        if reading.kind != Kind::Generator {
+            return Err(Refusal::WrongKind);
+        }
+        let Stage::InMonth(_) = self.ledger.stage else {
+            return Err(Refusal::NoMonth);
+        };
+        let place = reading.number;
+        if place > self.bank.places() {
+            return Err(Refusal::NoPlace);
+        }
+        if self.ledger.month.is_read(place) {
+            return Err(Refusal::Again);
+        }
+        let mut dues = Dues::empty();
+        self.bank.ask_at(place, reading, &mut dues)?;
+        if !self
+            .ledger
+            .till
+            .has_room(place, dues.capacity_due() + dues.block_sum())
+        {
+            return Err(Refusal::TooMuch);
+        }
+        Ok(dues)
+    }
+
+    /// Takes a station's reading: asks the bank, books it, and adds the dues to the place's standing money.
+    pub fn meter(&mut self, reading: &Reading) -> Result<(), Refusal>
+        ensures { Meter self.old reading.now result self.new }
+    {
+        let mut dues = self.dues(reading)?;
+        self.bank.book_at(reading.number, reading, &mut dues)?;
+        self.ledger
+            .month
+            .add_reading(&self.methodology, reading, &dues)
+            .unwrap();
+        self.ledger
+            .till
+            .credit(reading.number, dues.capacity_due() + dues.block_sum())
+            .unwrap();
+        Ok(())
+    }
+
+    /// Takes a licensee's reading.
+    pub fn deliver(&mut self, reading: &Reading) -> Result<(), Refusal>
+        ensures { Deliver self.old reading.now result self.new }
+    {
+        if reading.kind != Kind::Licensee {
+            return Err(Refusal::WrongKind);
+        }
+        let Stage::InMonth(_) = self.ledger.stage else {
+            return Err(Refusal::NoMonth);
+        };
+        if self.ledger.month.has_delivered(reading.number) {
+            return Err(Refusal::Again);
+        }
+        self.ledger
+            .month
+            .add_delivery(&self.methodology, reading)
+            .unwrap();
+        Ok(())
+    }
+
+    /// Closes the month and fills in the caller's sheet; a refusal leaves it. The caller states how many readings and
+    /// deliveries the month must have.
+    pub fn close(
+        &mut self,
+        readings: usize,
+        deliveries: usize,
+        sheet: &mut Sheet,
+    ) -> Result<(), Refusal>
+        ensures { Close self.old readings deliveries sheet.old result self.new sheet.new }
+    {
+        let Stage::InMonth(number) = self.ledger.stage else {
+            return Err(Refusal::NoMonth);
+        };
+        close(
+            &self.methodology,
+            &mut self.ledger.books,
+            &self.ledger.rates,
+            &self.ledger.revenues,
+            number,
+            &self.ledger.month,
+            readings,
+            deliveries,
+            sheet,
+        )?;
+        self.ledger.month = Month::open();
+        self.ledger.stage = after_month(number);
+        Ok(())
+    }
+
+    /// Draws an order on all whole cents that stand at a place.
+    pub fn draw(&mut self, place: u8) -> Result<PayOrder, Refusal>
+        ensures { Draw self.old place result self.new }
+    {
+        if !(1..=self.bank.places()).contains(&place) {
+            return Err(Refusal::NoPlace);
+        }
+        Ok(self.ledger.till.draw(place)?)
+    }
+
+    /// Pays an order. One that is not the house's own comes back.
+    pub fn release(&mut self, order: PayOrder) -> Result<Paid, Returned>
+        ensures { Release self.old order result self.new }
+    {
+        self.ledger.till.release(order)
+    }
+
+    /// Puts an order's cents back to the money standing at its place. One that is not the house's own comes back.
+    pub fn hold(&mut self, order: PayOrder) -> Result<(), Returned>
+        ensures { Hold self.old order result self.new }
+    {
+        self.ledger.till.hold(order)
+    }
+}
