@@ -6,8 +6,8 @@ use Rattle.std.specs.List.{list_any}
 use Rattle.orders.specs.declared.order.PayOrder.{PayOrder}
 use Rattle.orders.specs.declared.order.Returned.{Returned}
 use Rattle.ledger.specs.Views.{View}
-use Rattle.history.specs.declared.call.Spending.{Spending}
-use Rattle.history.specs.declared.call.Spending.TheVariants.{Release, Hold}
+use Rattle.history.specs.declared.spending.Spending.{Spending}
+use Rattle.history.specs.declared.spending.Spending.TheVariants.{Release, Hold}
 use Rattle.history.specs.declared.answer.Answer.{Answer}
 use Rattle.history.specs.Presenting.{Spends, PutsBack, PresentsAt, After, Presentation}
 use Rattle.ledger.specs.Runs.{Among, first, later}

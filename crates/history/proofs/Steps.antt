@@ -27,12 +27,12 @@ use Rattle.history.specs.declared.call.Call.{Call}
 use Rattle.history.specs.declared.call.Call.TheVariants.{Year, Tariff, Meter, Deliver, Close, Draw, Present}
 use Rattle.history.specs.declared.call.Named.{Named}
 use Rattle.history.specs.declared.call.Named.TheVariants.{Drawn, Other}
-use Rattle.history.specs.declared.call.Spending.{Spending}
-use Rattle.history.specs.declared.call.Spending.TheVariants.{Release, Hold}
+use Rattle.history.specs.declared.spending.Spending.{Spending}
+use Rattle.history.specs.declared.spending.Spending.TheVariants.{Release, Hold}
 use Rattle.history.specs.declared.call.Stated.{Stated}
 use Rattle.history.specs.declared.answer.Answer.{Answer}
 use Rattle.history.specs.declared.answer.Answer.TheVariants.{Metered}
-use Rattle.history.specs.declared.numbered.Orders.{Orders}
+use Rattle.history.specs.declared.order_list.Orders.{Orders}
 use Rattle.history.specs.Slots.{slot, in_slots, slots_of}
 use Rattle.history.specs.Presenting.{Spends, After, Missing, Presentation}
 use Rattle.history.specs.Histories.{told, answer_to, named, hand_drawn, Makes, History, begun, made, lacking, Performed, Next}

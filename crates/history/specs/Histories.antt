@@ -16,7 +16,7 @@ use Rattle.history.specs.declared.call.Call.{Call}
 use Rattle.history.specs.declared.call.Call.TheVariants.{Year, Tariff, Meter, Deliver, Close, Draw, Present}
 use Rattle.history.specs.declared.call.Named.{Named}
 use Rattle.history.specs.declared.call.Named.TheVariants.{Drawn, Other}
-use Rattle.history.specs.declared.call.Spending.TheVariants.{Release, Hold}
+use Rattle.history.specs.declared.spending.Spending.TheVariants.{Release, Hold}
 use Rattle.history.specs.declared.answer.Answer.{Answer}
 use Rattle.history.specs.declared.answer.Answer.TheVariants.{Accepted, Metered, Closed, Drawn as DrawnOut, Paid as PaidOut, Refused, Returned as CameBack, Absent}
 use Rattle.history.specs.Slots.{slot, without, in_slots}
@@ -71,13 +71,8 @@ Makes (Present Hold which) hand others e hand' = (o : PayOrder) × (r : Result (
 
 -- the order named is not there, so that no call can be made
 abbrev pub Lacks : Call → List (Option PayOrder) → List (Option PayOrder) → Type 0
-Lacks (Year given) hand others = ⊥
-Lacks (Tariff given) hand others = ⊥
-Lacks (Meter given) hand others = ⊥
-Lacks (Deliver given) hand others = ⊥
-Lacks (Close stated) hand others = ⊥
-Lacks (Draw place) hand others = ⊥
 Lacks (Present how which) hand others = named hand others which ≡ None
+Lacks _ hand others = ⊥
 
 module _ (shape : Shape) (market : Market) (row : List Meaning) (serial : ℕ) (others : List (Option PayOrder)) where
   -- the calls of a list with their answers, in the same order; their events, the last first; the orders in hand, and what the house then shows

@@ -1,8 +1,15 @@
--- All orders are held.
-use Rattle.std.specs.Prelude.{◌≡◌, ℕ, ◌+◌, ◌*◌, ◌≤◌}
+-- All orders in hand are held.
+use Rattle.std.specs.Prelude.{◌≡◌, ℕ, ◌+◌, ◌*◌, ◌≤◌, List}
+use Rattle.orders.specs.declared.order.PayOrder.{PayOrder}
+use Rattle.orders.specs.declared.till.Till.{Till}
 use Rattle.orders.specs.Limits.{cent}
 use Rattle.orders.specs.Tills.{stands, ordered_at}
 use Rattle.ledger.specs.Views.{View, till_of, with_till}
+use Rattle.ledger.specs.Accepted.{in_hand}
+
+-- all that a till has on orders is on these
+abbrev pub Covers : Till → List PayOrder → Type 0
+Covers t os = (p : ℕ) → 1 ≤ p → ordered_at t p ≡ in_hand p os
 
 -- the money that was on orders stands at its place again, and nothing else has changed
 pub record AllHeld (v w : View) : Type 0 where

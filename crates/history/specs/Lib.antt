@@ -5,3 +5,4 @@ pub mod Presenting
 pub mod Histories
 pub mod Steps
 pub mod Holding
+pub mod Performing

@@ -5,8 +5,8 @@ use Rattle.orders.specs.declared.order.Paid.{Paid}
 use Rattle.orders.specs.declared.order.Returned.{Returned}
 use Rattle.ledger.specs.Views.{View}
 use Rattle.ledger.specs.Calls as calls
-use Rattle.history.specs.declared.call.Spending.{Spending}
-use Rattle.history.specs.declared.call.Spending.TheVariants.{Release, Hold}
+use Rattle.history.specs.declared.spending.Spending.{Spending}
+use Rattle.history.specs.declared.spending.Spending.TheVariants.{Release, Hold}
 use Rattle.history.specs.declared.answer.Answer.{Answer}
 use Rattle.history.specs.declared.answer.Answer.TheVariants.{Accepted, Paid as PaidOut, Returned as CameBack, Absent}
 use Rattle.history.specs.Slots.{slot, without}

@@ -1,7 +1,7 @@
 -- Orders under numbers.
 use Rattle.std.specs.Prelude.{◌≡◌, ℕ, ◌-◌, ◌<◌, ◌≤◌, cond, List, [], ◌∷◌, ◌++◌, length, Some, None, Ok, Err, vec_items, vec_capacity, Option, Result, nat_le, slice_index_or, slice_set}
 use Rattle.orders.specs.declared.order.PayOrder.{PayOrder}
-use Rattle.history.specs.declared.numbered.Orders.{Orders}
+use Rattle.history.specs.declared.order_list.Orders.{Orders}
 
 abbrev pub slots_of : Orders → List (Option PayOrder)
 slots_of o = vec_items o.slots

@@ -15,7 +15,7 @@ use Rattle.history.specs.declared.call.Call.{Call}
 use Rattle.history.specs.declared.call.Stated.{Stated}
 use Rattle.history.specs.declared.answer.Answer.{Answer}
 use Rattle.history.specs.declared.answer.Answer.TheVariants.{Metered, Closed, Drawn, Refused}
-use Rattle.history.specs.declared.numbered.Orders.{Orders}
+use Rattle.history.specs.declared.order_list.Orders.{Orders}
 use Rattle.history.specs.Slots.{slots_of, room_in}
 use Rattle.history.specs.Histories.{hand_drawn, Next}
 

@@ -1,10 +1,12 @@
 //! What a call answered, in plain numbers.
 ghost use Rattle.std.specs.Prelude.{◌≡◌, option_map};
 ghost use Rattle.history.specs.Answers.{refusal_of, sheet_of};
+ghost use Rattle.history.specs.Histories.{told};
 
 use accounts::Sheet;
 use ledger::Refusal;
 
+/// What a call of a list answered.
 #[derive(Clone, Copy)]
 pub enum Answer {
     /// A year, a tariff, a delivery or a hold was accepted.
@@ -13,7 +15,7 @@ pub enum Answer {
     Metered(u64),
     /// The month was closed: its sheet.
     Closed(Sheet),
-    /// An order was drawn: its place and its cents. Plain numbers, as all here, and no `Paid`, which is of an order that was.
+    /// An order was drawn: its place and its cents.
     Drawn(u8, u64),
     /// An order was released: its place and its cents.
     Paid(u8, u64),
@@ -42,6 +44,18 @@ impl Answer {
         match self {
             Answer::Closed(sheet) => Some(sheet),
             _ => None,
+        }
+    }
+}
+
+/// The answer of a call that says no more than whether it was accepted.
+impl From<Result<(), Refusal>> for Answer {
+    ghost from_gives = { λ r a. a ≡ told r };
+
+    fn from(answer: Result<(), Refusal>) -> Answer {
+        match answer {
+            Ok(()) => Answer::Accepted,
+            Err(why) => Answer::Refused(why),
         }
     }
 }

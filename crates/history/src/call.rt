@@ -1,6 +1,7 @@
-//! A call to make of a house.
+//! The calls of a list: what is asked of a house, in plain numbers.
 ghost use Rattle.std.specs.Prelude.{◌≡◌};
 
+use crate::spending::Spending;
 use metering::Reading;
 use tariffs::{Filing, Row};
 
@@ -13,13 +14,6 @@ pub enum Named {
     Other(usize),
 }
 
-/// What an order is presented for.
-#[derive(Clone, Copy)]
-pub enum Spending {
-    Release,
-    Hold,
-}
-
 /// How many readings and deliveries a month must have.
 #[derive(Clone, Copy)]
 pub struct Stated {
@@ -27,6 +21,7 @@ pub struct Stated {
     pub deliveries: usize,
 }
 
+/// A call to make of a house. Its orders are named by number.
 #[derive(Clone, Copy)]
 pub enum Call {
     Year(Row),

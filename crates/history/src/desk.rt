@@ -1,4 +1,4 @@
-//! One call of a list.
+//! A house at work on a list of calls.
 ghost use Rattle.std.specs.Prelude.{◌≡◌, ◌<◌, length};
 ghost use Rattle.ledger.specs.Views.{till_of};
 ghost use Rattle.house.specs.Shown.{shows};
@@ -8,8 +8,9 @@ ghost use Rattle.history.specs.Bearing.{Foreign};
 ghost use Rattle.history.specs.Steps.{Meters, Closes, Draws, Stepped};
 
 use crate::answer::Answer;
-use crate::call::{Call, Named, Spending, Stated};
-use crate::numbered::Orders;
+use crate::call::{Call, Named, Stated};
+use crate::order_list::Orders;
+use crate::spending::Spending;
 use accounts::Sheet;
 use banks::Bank;
 use house::House;
@@ -17,21 +18,9 @@ use ledger::Refusal;
 use metering::Reading;
 use methodology::Methodology;
 
-/// The answer of a call that says no more than whether it was accepted.
-impl From<Result<(), Refusal>> for Answer {
-    ghost from_gives = { λ r a. a ≡ told r };
-
-    fn from(answer: Result<(), Refusal>) -> Answer {
-        match answer {
-            Ok(()) => Answer::Accepted,
-            Err(why) => Answer::Refused(why),
-        }
-    }
-}
-
 /// Meters, and tells the dues: what the place's standing money gained.
 fn meter<B: Bank, M: Methodology>(house: &mut House<B, M>, reading: &Reading) -> Answer
-    ensures { Meters (shows B.Bank M.Methodology house.old) reading.now result (shows B.Bank M.Methodology house.new) }
+    ensures { Meters (shows house.old) reading.now result (shows house.new) }
 {
     let before = house.ledger().till.money(reading.number).standing;
     match house.meter(reading) {
@@ -42,7 +31,7 @@ fn meter<B: Bank, M: Methodology>(house: &mut House<B, M>, reading: &Reading) ->
 
 /// Closes the month on a sheet of its own.
 fn close<B: Bank, M: Methodology>(house: &mut House<B, M>, stated: Stated) -> Answer
-    ensures { Closes (shows B.Bank M.Methodology house.old) stated result (shows B.Bank M.Methodology house.new) }
+    ensures { Closes (shows house.old) stated result (shows house.new) }
 {
     let mut sheet = Sheet::empty(M::shape());
     match house.close(stated.readings, stated.deliveries, &mut sheet) {
@@ -51,9 +40,8 @@ fn close<B: Bank, M: Methodology>(house: &mut House<B, M>, stated: Stated) -> An
     }
 }
 
-/// A house at work on a list of calls, with the orders that it has in hand. Those of other houses are passed beside it, since
-/// a struct cannot keep a fact about what it only borrows to change.
-pub(crate) struct Desk<B, M> {
+/// A house at work on a list of calls, with the orders that it has in hand. Those of other houses are passed beside it.
+pub(crate) struct Desk<B: Bank, M: Methodology> {
     pub(crate) house: House<B, M>,
     pub(crate) hand: Orders,
 }
@@ -62,7 +50,7 @@ impl<B: Bank, M: Methodology> Desk<B, M> {
     /// Draws, and keeps the order in hand under the next number.
     fn draw(&mut self, place: u8) -> Answer
         requires { length (slots_of self.old.hand) < room_in self.old.hand }
-        ensures drawn { Draws (shows B.Bank M.Methodology self.old.house) place (slots_of self.old.hand) result (slots_of self.new.hand) (shows B.Bank M.Methodology self.new.house) }
+        ensures drawn { Draws (shows self.old.house) place (slots_of self.old.hand) result (slots_of self.new.hand) (shows self.new.house) }
         ensures room { room_in self.new.hand ≡ room_in self.old.hand }
     {
         match self.house.draw(place) {
@@ -77,8 +65,8 @@ impl<B: Bank, M: Methodology> Desk<B, M> {
 
     /// Presents the order that is named.
     fn present(&mut self, others: &mut Orders, how: Spending, which: Named) -> Answer
-        requires { Foreign (till_of (shows B.Bank M.Methodology self.old.house)).serial (slots_of others.old) }
-        ensures { Stepped (Call.Present how which) result (shows B.Bank M.Methodology self.old.house) self.old.hand others.old (shows B.Bank M.Methodology self.new.house) self.new.hand others.new }
+        requires { Foreign (till_of (shows self.old.house)).serial (slots_of others.old) }
+        ensures { Stepped (Call.Present how which) result (shows self.old.house) self.old.hand others.old (shows self.new.house) self.new.hand others.new }
     {
         match which {
             Named::Drawn(number) => how.present(&mut self.house, &mut self.hand, number),
@@ -89,8 +77,8 @@ impl<B: Bank, M: Methodology> Desk<B, M> {
     /// Makes one call. Where the order that it names is not there, there is no call to make.
     pub(crate) fn step(&mut self, others: &mut Orders, call: &Call) -> Answer
         requires room { length (slots_of self.old.hand) < room_in self.old.hand }
-        requires foreign { Foreign (till_of (shows B.Bank M.Methodology self.old.house)).serial (slots_of others.old) }
-        ensures { Stepped call.now result (shows B.Bank M.Methodology self.old.house) self.old.hand others.old (shows B.Bank M.Methodology self.new.house) self.new.hand others.new }
+        requires foreign { Foreign (till_of (shows self.old.house)).serial (slots_of others.old) }
+        ensures { Stepped call.now result (shows self.old.house) self.old.hand others.old (shows self.new.house) self.new.hand others.new }
     {
         match *call {
             Call::Year(given) => self.house.year(&given).into(),

@@ -1,16 +1,17 @@
-//! Histories: lists of calls performed one after another, and the law that holds after each.
+//! Lists of calls performed one after another on a new house, and the law that holds after each.
 #![tactic(auto)]
 
 pub mod answer;
 pub mod call;
+pub mod desk;
 pub mod new_house;
-pub mod numbered;
-pub mod performing;
-pub mod presenting;
-pub mod stepping;
+pub mod order_list;
+pub mod performance;
+pub mod spending;
 
 pub use answer::Answer;
-pub use call::{Call, Named, Spending, Stated};
+pub use call::{Call, Named, Stated};
 pub use new_house::NewHouse;
-pub use numbered::Orders;
-pub use performing::{Performance, Unperformed};
+pub use order_list::Orders;
+pub use performance::{Performance, Unperformed};
+pub use spending::Spending;

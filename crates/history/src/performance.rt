@@ -1,26 +1,49 @@
 //! What performing a list of calls gives back.
-ghost use Rattle.std.specs.Prelude.{◌≡◌, ℕ, ◌≤◌, true};
-ghost use Rattle.orders.specs.Tills.{ordered_at};
-ghost use Rattle.ledger.specs.Accepted.{in_hand};
+ghost use Rattle.std.specs.Prelude.{◌≡◌, true};
 ghost use Rattle.history.specs.Slots.{slots_of, in_slots};
 ghost use Rattle.history.specs.Bearing.{all_bear};
-ghost use Rattle.history.specs.declared.performing.Unperformed.TheVariants.{NoMemory};
+ghost use Rattle.history.specs.Holding.{Covers};
+ghost use Rattle.history.specs.declared.performance.Unperformed.TheVariants.{NoMemory};
 
 use crate::answer::Answer;
-use crate::numbered::Orders;
+use crate::order_list::Orders;
+use banks::Bank;
 use house::House;
+use methodology::Methodology;
 use std::alloc::AllocError;
 
-pub mod perform;
-
-/// The house, an answer for each call in the order of the list, and the orders that are still in hand, each under the number of its draw.
-pub struct Performance<B, M> {
+/// The house, an answer for each call in the order of the list, and the orders that are still in hand, each under the number
+/// of its draw.
+pub struct Performance<B: Bank, M: Methodology> {
     pub house: House<B, M>,
     pub answers: Vec<Answer>,
     pub hand: Orders,
     /// The orders are the house's own, and all that it has money on orders for.
     ghost own: { all_bear house.ledger.till.serial (in_slots (slots_of hand)) ≡ true },
-    ghost covered: { (p : ℕ) → 1 ≤ p → ordered_at house.ledger.till p ≡ in_hand p (in_slots (slots_of hand)) },
+    ghost covered: { Covers house.ledger.till (in_slots (slots_of hand)) },
+}
+
+impl<B: Bank, M: Methodology> Performance<B, M> {
+    ghost use Rattle.house.specs.Shown.{shows};
+    ghost use Rattle.history.specs.Holding.{AllHeld};
+
+    /// Has every order in hand held, so that all its money stands at the places again, and gives back the house and the answers.
+    pub fn hold_all(self) -> (House<B, M>, Vec<Answer>)
+        ensures held { AllHeld (shows self.house) (shows result.0) }
+        ensures answers { result.1 ≡ self.answers }
+    {
+        let Performance {
+            mut house,
+            answers,
+            mut hand,
+        } = self;
+        while let Some(order) = hand.take_last() {
+            // The house takes in its own orders.
+            house.hold(order).unwrap();
+        }
+        hand.finish();
+        (house, answers)
+    }
 }
 
 /// Why a list is not performed; then no call was made.
@@ -28,6 +51,7 @@ pub struct Performance<B, M> {
 pub enum Unperformed {
     /// One of the other houses' orders bears the serial that the new house was to bear.
     SerialTaken,
+    /// There was no memory for the answers.
     NoMemory,
 }
 

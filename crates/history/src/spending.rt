@@ -1,17 +1,25 @@
-//! Presenting orders.
+//! What an order is presented for, and presenting it.
 ghost use Rattle.std.specs.Prelude.{◌≡◌};
 ghost use Rattle.house.specs.Shown.{shows};
 ghost use Rattle.history.specs.Slots.{slots_of, room_in};
 ghost use Rattle.history.specs.Presenting.{Spends, PresentsAt, Presentation};
 
 use crate::answer::Answer;
-use crate::call::Spending;
-use crate::numbered::Orders;
+use crate::order_list::Orders;
 use banks::Bank;
 use house::House;
 use metering::index_of;
 use methodology::Methodology;
 use orders::{PayOrder, Returned};
+
+/// What an order is presented for.
+#[derive(Clone, Copy)]
+pub enum Spending {
+    /// To be paid.
+    Release,
+    /// To have its money stand at its place again.
+    Hold,
+}
 
 impl Spending {
     /// Has the house take an order in, or gives it back.
@@ -20,7 +28,7 @@ impl Spending {
         house: &mut House<B, M>,
         order: PayOrder,
     ) -> Result<Answer, Returned>
-        ensures { Spends self (shows B.Bank M.Methodology house.old) order result (shows B.Bank M.Methodology house.new) }
+        ensures { Spends self (shows house.old) order result (shows house.new) }
     {
         match self {
             Spending::Release => {
@@ -40,7 +48,7 @@ impl Spending {
         house: &mut House<B, M>,
         slot: &mut Option<PayOrder>,
     ) -> Answer
-        ensures { PresentsAt self slot.old (shows B.Bank M.Methodology house.old) result slot.new (shows B.Bank M.Methodology house.new) }
+        ensures { PresentsAt self slot.old (shows house.old) result slot.new (shows house.new) }
     {
         let Some(order) = slot.take() else {
             return Answer::Absent;
@@ -61,7 +69,7 @@ impl Spending {
         orders: &mut Orders,
         number: usize,
     ) -> Answer
-        ensures done { Presentation self number (slots_of orders.old) (shows B.Bank M.Methodology house.old) result (slots_of orders.new) (shows B.Bank M.Methodology house.new) }
+        ensures done { Presentation self number (slots_of orders.old) (shows house.old) result (slots_of orders.new) (shows house.new) }
         ensures room { room_in orders.new ≡ room_in orders.old }
     {
         match index_of(number, orders.slots.len()) {

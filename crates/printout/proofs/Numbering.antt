@@ -17,7 +17,7 @@ use Rattle.history.specs.declared.call.Call.{Call}
 use Rattle.history.specs.declared.call.Call.TheVariants.{Year, Tariff, Meter, Deliver, Close, Draw, Present}
 use Rattle.history.specs.declared.call.Named.{Named}
 use Rattle.history.specs.declared.call.Named.TheVariants.{Drawn as DrawnHere, Other}
-use Rattle.history.specs.declared.call.Spending.TheVariants.{Release, Hold}
+use Rattle.history.specs.declared.spending.Spending.TheVariants.{Release, Hold}
 use Rattle.history.specs.declared.answer.Answer.{Answer}
 use Rattle.history.specs.declared.answer.Answer.TheVariants.{Accepted, Metered, Closed, Drawn, Paid, Refused, Returned as CameBack, Absent}
 use Rattle.history.specs.Slots.{slot}

@@ -3,7 +3,7 @@ use Rattle.std.specs.Prelude.{ℕ, List, [], ◌++◌, codes, decimal}
 use Rattle.history.specs.declared.call.Call.{Call}
 use Rattle.history.specs.declared.call.Call.TheVariants as call
 use Rattle.history.specs.declared.call.Named.TheVariants.{Drawn as DrawnHere, Other as OfOthers}
-use Rattle.history.specs.declared.call.Spending.TheVariants as spending
+use Rattle.history.specs.declared.spending.Spending.TheVariants as spending
 use Rattle.printout.specs.declared.verb.Verb.{Verb}
 use Rattle.printout.specs.declared.verb.Verb.TheVariants.{Year, Tariff, Meter, Deliver, Close, Draw, Release, Hold}
 use Rattle.printout.specs.declared.subject.Subject.{Subject}

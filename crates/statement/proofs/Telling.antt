@@ -27,7 +27,7 @@ use Rattle.ledger.specs.Accepted.{some_or, year_of, reading_of, sheet_of, paymen
 use Rattle.ledger.proofs.Terms.{given_at_more}
 use Rattle.history.specs.declared.call.Call.{Call}
 use Rattle.history.specs.declared.call.Call.TheVariants.{Year, Tariff, Meter, Deliver, Close, Draw, Present}
-use Rattle.history.specs.declared.call.Spending.TheVariants.{Release, Hold}
+use Rattle.history.specs.declared.spending.Spending.TheVariants.{Release, Hold}
 use Rattle.history.specs.declared.answer.Answer.{Answer}
 use Rattle.history.specs.declared.answer.Answer.TheVariants.{Absent}
 use Rattle.history.specs.Slots.{in_slots}

@@ -1,5 +1,5 @@
 use Rattle.std.proofs.Common.{Ok, Err, refl}
-use Rattle.history.proofs.stepping.close.Goals as goal
+use Rattle.history.proofs.desk.close.Goals as goal
 
 pub returns-in-Ok : goal.returns-in-Ok
 returns-in-Ok g c = (Ok tt, c.empty-sheet.result, c.close.new.sheet, refl, c.in-Ok.ensures)

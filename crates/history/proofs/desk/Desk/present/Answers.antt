@@ -1,7 +1,7 @@
 use Rattle.std.proofs.Common.{refl, arith}
 use Rattle.history.specs.Slots.{slots_of}
 use Rattle.history.proofs.Steps.{next_own, next_other, others_stay, presented_long}
-use Rattle.history.proofs.stepping.Desk.present.Goals as goal
+use Rattle.history.proofs.desk.Desk.present.Goals as goal
 
 pub returns-in-Drawn : goal.returns-in-Drawn
 returns-in-Drawn g c =

@@ -1,7 +1,7 @@
 use Rattle.std.proofs.Common.{refl}
 use Rattle.history.specs.Slots.{slots_of}
 use Rattle.history.proofs.Steps.{next_year, next_tariff, next_meter, next_deliver, next_close, next_draw, draws_long, stays}
-use Rattle.history.proofs.stepping.Desk.step.Goals as goal
+use Rattle.history.proofs.desk.Desk.step.Goals as goal
 
 pub returns-in-Year : goal.returns-in-Year
 returns-in-Year g c =

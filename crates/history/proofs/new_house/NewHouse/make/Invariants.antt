@@ -12,4 +12,4 @@ invariant-loop-call g l =
     × (length (slots_of l.desk.hand) ≤ l.call-index)
     × (length l.calls ≤ room_in l.desk.hand)
     × (slots_of l.others ≡ slots_of l.initial.others)
-    × Performed g.M.Methodology.shape (g.M.Methodology.meaning l.initial.desk.house.methodology) (g.B.Bank.row l.initial.desk.house.bank) l.serial (slots_of l.initial.others) (take l.call-index l.calls) (vec_items l.answers) (slots_of l.desk.hand) (shows g.B.Bank g.M.Methodology l.desk.house)
+    × Performed g.M.Methodology.shape (g.M.Methodology.meaning l.initial.desk.house.methodology) (g.B.Bank.row l.initial.desk.house.bank) l.serial (slots_of l.initial.others) (take l.call-index l.calls) (vec_items l.answers) (slots_of l.desk.hand) (shows l.desk.house)

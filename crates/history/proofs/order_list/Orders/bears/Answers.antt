@@ -5,7 +5,7 @@ use borrow.Author.Tests.{tests}
 use Rattle.history.specs.Bearing.{slot_bears}
 use Rattle.history.specs.Slots.{slots_of}
 use Rattle.history.proofs.Slots.{any_bears_list}
-use Rattle.history.proofs.numbered.Orders.bears.Goals as goal
+use Rattle.history.proofs.order_list.Orders.bears.Goals as goal
 
 pub returns : goal.returns
 returns c =

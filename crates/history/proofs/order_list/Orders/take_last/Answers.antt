@@ -1,7 +1,7 @@
 use Rattle.std.proofs.Common.{[], ◌∷◌, ◌++◌, length, vec_items, ap, ◌∙◌, arith, length-append}
 use Rattle.history.specs.Slots.{in_slots}
 use Rattle.history.proofs.Slots.{slots_more, slots_no_more}
-use Rattle.history.proofs.numbered.Orders.take_last.Goals as goal
+use Rattle.history.proofs.order_list.Orders.take_last.Goals as goal
 
 pub returns-in-Some-last : goal.returns-in-Some-last
 returns-in-Some-last c =

@@ -1,6 +1,6 @@
 use Rattle.std.proofs.Common.{◌≡◌, ◌≤◌, length, vec_len}
 use Rattle.history.specs.Slots.{slots_of, in_slots}
-use Rattle.history.proofs.numbered.Orders.take_last.Given as goal
+use Rattle.history.proofs.order_list.Orders.take_last.Given as goal
 
 abbrev pub invariant-loop-last : goal.invariant-loop-last
 invariant-loop-last l =

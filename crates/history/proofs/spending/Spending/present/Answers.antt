@@ -1,7 +1,7 @@
 use Rattle.std.proofs.Common.{refl, arith}
 use Rattle.history.specs.Slots.{slots_of}
 use Rattle.history.proofs.Slots.{presented}
-use Rattle.history.proofs.call.Spending.present.Goals as goal
+use Rattle.history.proofs.spending.Spending.present.Goals as goal
 
 pub returns-in-Some-clause-done : goal.returns-in-Some-clause-done
 returns-in-Some-clause-done g c =
