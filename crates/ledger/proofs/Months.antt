@@ -2,10 +2,10 @@
 use Rattle.std.proofs.Common.{◌≡◌, ℕ, zero, suc, ◌+◌, ◌-◌, ◌<◌, ◌≤◌, Bool, true, false, not, List, ◌∷◌, get_or, pos, ◌+ℤ◌, is_some, Some, None, Ok, Err, Option, Result, sym, refl, ap, ◌∙◌, subst, ⊎_elim, arith}
 use Rattle.std.proofs.lemmas.Int.{ints}
 use Rattle.std.proofs.lemmas.Bool.{cases_eq, false≢true}
-use Rattle.metering.specs.declared.reading.Kind.{Kind}
-use Rattle.metering.specs.declared.reading.Kind.TheVariants.{Generator, Licensee}
+use Rattle.metering.specs.declared.kind.Kind.{Kind}
+use Rattle.metering.specs.declared.kind.Kind.TheVariants.{Generator, Licensee}
 use Rattle.metering.specs.declared.reading.Reading.{Reading}
-use Rattle.metering.specs.Limits.{number_limit}
+use Rattle.metering.specs.Limits.{licensee_limit, number_limit}
 use Rattle.agreements.specs.Meaning.{Meaning}
 use Rattle.arith.specs.Months.{share as month-share}
 use Rattle.banks.specs.Rows.{at_place}
@@ -17,7 +17,6 @@ use Rattle.accounts.specs.declared.delivery.Delivery.{Delivery}
 use Rattle.accounts.specs.declared.sheet.HeadLine.{HeadLine}
 use Rattle.accounts.specs.declared.month.Month.{Month}
 use Rattle.accounts.specs.declared.sheet.Sheet.{Sheet}
-use Rattle.accounts.specs.Limits.{licensee_limit}
 use Rattle.accounts.specs.Sums.{sum_to, sum_toℤ}
 use Rattle.accounts.specs.Rules.{Rules, rules_of, head_count}
 use Rattle.accounts.specs.Books.{account_at, fraction_at}
@@ -34,13 +33,14 @@ use Rattle.orders.specs.declared.order.Paid.{Paid}
 use Rattle.orders.specs.declared.order.Returned.{Returned}
 use Rattle.ledger.specs.declared.refusal.Refusal.{Refusal}
 use Rattle.ledger.specs.declared.refusal.Refusal.TheVariants.{WrongKind, NoMonth, Again}
-use Rattle.ledger.specs.Views.{View, rules, month_of, books_of, in_month}
+use Rattle.ledger.specs.Stages.{in_month}
+use Rattle.ledger.specs.Views.{View, rules, month_of, books_of}
 use Rattle.ledger.specs.Verdicts.{Verdict, accepted, refused, must, ◌and_then◌}
 use Rattle.ledger.specs.Terms.{worth, dues_at, place_after}
 use Rattle.ledger.specs.Calls.{Year, YearFiled, Tariff, TariffPublished, Meter, Metered, Deliver, DeliveryTaken, deliver_verdict, of_generator, Close, MonthClosed, case_at, Draw, Release, Hold}
-use Rattle.ledger.specs.Runs.{Event, filed, priced, metered, delivered, closed, drew, released, held, Run, new, year, tariff, meter, deliver, close, draw, release, hold}
+use Rattle.ledger.specs.Runs.{Event, year, tariff, meter, deliver, close, draw, release, hold, Run, new, step}
 use Rattle.ledger.specs.Accepted.{some_or, year_of, reading_of, delivery_of, sheet_of, accepted_at, due_after, open_dues, closed_dues, taken_under, open_quantity, last_quantity, yearly, allowed, billed, margins, last_balance, last_carry, last_fraction, last_sheet}
-use Rattle.ledger.specs.Law.{Carried, Account, Keeps, head_number, EveryRun}
+use Rattle.ledger.specs.Law.{Carried, Balanced, Keeps, head_number, EveryRun}
 use Rattle.ledger.proofs.Places.{Held, held_after}
 
 -- what the accepted calls brought is what the house has counted
@@ -49,7 +49,7 @@ pub record Counted (shape : Shape) (market : Market) (row : List Meaning) (es : 
   pub dues : income_of (rules_of shape market) (month_of v) ≡ open_dues row es
   pub quantities : (k : ℕ) → k < head_number shape market row → quantity_in (month_of v) k ≡ open_quantity (rules_of shape market) es k
   pub keeps : Keeps shape market row es v
-  pub account : Account shape market row es
+  pub balanced : Balanced shape market row es
   pub carries : (k : ℕ) → k < head_number shape market row → Carried (last_sheet es) (last_quantity (rules_of shape market) es k) (last_carry es k)
 
 -- what an event without an accepted closing leaves of the account
@@ -63,8 +63,8 @@ module _ (shape : Shape) (market : Market) (row : List Meaning) (e : Event) (es 
   same_fraction : (l : ℕ) → last_fraction (e ∷ es) l ≡ last_fraction es l
   same_fraction l = ap (λ o. some_or o (last_fraction es l) (λ s. some_or (billed_at s l) (last_fraction es l) (λ b. b.fraction))) none
 
-  same_account : Account shape market row es → Account shape market row (e ∷ es)
-  same_account before =
+  same_balanced : Balanced shape market row es → Balanced shape market row (e ∷ es)
+  same_balanced before =
       let n = head_number shape market row in
       let fractions = sum_same (last_fraction (e ∷ es)) (last_fraction es) licensee_limit (λ l h. same_fraction l) in
       let balances = sumℤ_same (last_balance (e ∷ es)) (last_balance es) n (λ k h. same_balance k) in
@@ -103,7 +103,7 @@ module _ (shape : Shape) (market : Market) (row : List Meaning) (e : Event) (es 
               carries = λ k h. carries k h ∙ i.keeps.carries k h ∙ sym (same_carry k);
               fractions = λ l h. ap (λ fs. get_or fs l 0) fractions ∙ i.keeps.fractions l h ∙ sym (same_fraction l);
             };
-        account = same_account i.account;
+        balanced = same_balanced i.balanced;
         carries = same_carried i.carries;
       }
 
@@ -145,12 +145,12 @@ unmoved shape market row e es none unread untaken unfiled same i =
 
 -- what a step proves of a house's own market holds of the market that it was made for
 at_own : (shape : Shape) (market : Market) (row : List Meaning) {es es' : List Event} {v w : View} → v.shape ≡ shape → v.market ≡ market → (Counted v.shape v.market row es v → Counted v.shape v.market row es' w) → Counted shape market row es v → Counted shape market row es' w
-at_own shape market row {es} {es'} {v} {w} shape_is market_is step i =
+at_own shape market row {es} {es'} {v} {w} shape_is market_is one i =
     subst (λ s. Counted s market row es' w) shape_is
     (subst (λ m. Counted v.shape m row es' w) market_is
-    (step (subst (λ m. Counted v.shape m row es v) (sym market_is) (subst (λ s. Counted s market row es v) (sym shape_is) i))))
+    (one (subst (λ m. Counted v.shape m row es v) (sym market_is) (subst (λ s. Counted s market row es v) (sym shape_is) i))))
 
-year_step : (row : List Meaning) (es : List Event) {v w : View} (given : Row) (u : Unit {0}) → YearFiled v given w → Counted v.shape v.market row es v → Counted v.shape v.market row (filed given (Ok u) ∷ es) w
+year_step : (row : List Meaning) (es : List Event) {v w : View} (given : Row) (u : Unit {0}) → YearFiled v given w → Counted v.shape v.market row es v → Counted v.shape v.market row (year given (Ok u) ∷ es) w
 year_step row es {v} {w} given u m i =
     counted_by v.shape v.market row e es refl i
     (λ j h. m.allowed.as_filed j h)
@@ -159,13 +159,13 @@ year_step row es {v} {w} given u m i =
     (ap books_of m.left)
   where
     e : Event
-    e = filed given (Ok u)
+    e = year given (Ok u)
 
 -- the market's heads all have a place
 few : (shape : Shape) (market : Market) (row : List Meaning) → head_number shape market row ≤ head_limit
 few shape market row = shape.few
 
-tariff_step : (row : List Meaning) (es : List Event) {v w : View} (given : Filing) (u : Unit {0}) → ((half : _) × TariffPublished v given half w) → Counted v.shape v.market row es v → Counted v.shape v.market row (priced given (Ok u) ∷ es) w
+tariff_step : (row : List Meaning) (es : List Event) {v w : View} (given : Filing) (u : Unit {0}) → ((half : _) × TariffPublished v given half w) → Counted v.shape v.market row es v → Counted v.shape v.market row (tariff given (Ok u) ∷ es) w
 tariff_step row es {v} {w} given u (half, m) i =
     counted_on v.shape v.market row e es refl i
     (λ j h. ap (λ (x : View). get_or x.ledger.revenues.yearly j 0) m.left ∙ i.years j h)
@@ -176,14 +176,14 @@ tariff_step row es {v} {w} given u (half, m) i =
     m.begun.fractions
   where
     e : Event
-    e = priced given (Ok u)
+    e = tariff given (Ok u)
 
 -- the licensees' part of a month
 taken_from : List (Option Delivery) → ℕ → ℕ
 taken_from ls k = sum_to (λ l. taken (get_or ls l None) k) licensee_limit
 
-meter_step : (row : List Meaning) (es : List Event) {v w : View} (r : Reading) (u : Unit {0}) → at_place v.row r.number ≡ place_after (at_place row r.number) (accepted_at r.number es) → Metered v r w → Counted v.shape v.market row es v → Counted v.shape v.market row (metered r (Ok u) ∷ es) w
-meter_step row es {v} {w} r u stood m i =
+meter_step : (row : List Meaning) (es : List Event) {v w : View} (r : Reading) (dues : ℕ) → at_place v.row r.number ≡ place_after (at_place row r.number) (accepted_at r.number es) → Metered v r dues w → Counted v.shape v.market row es v → Counted v.shape v.market row (meter r (Ok dues) ∷ es) w
+meter_step row es {v} {w} r dues stood m i =
     counted_by v.shape v.market row e es refl i
     (λ j h. ap (λ (x : View). get_or x.ledger.revenues.yearly j 0) m.left ∙ i.years j h)
     (let whole = m.added.whole in let before = i.dues in let due = ap (λ place. worth (dues_at place r)) stood in omega arith)
@@ -191,7 +191,7 @@ meter_step row es {v} {w} r u stood m i =
     (ap books_of m.left)
   where
     e : Event
-    e = metered r (Ok u)
+    e = meter r (Ok dues)
 
 -- a sum of which one term comes new
 sum_grown : (f g : ℕ → ℕ) (i x n : ℕ) → i < n → f i ≡ 0 → g i ≡ x → ((l : ℕ) → (l ≡ i → ⊥) → g l ≡ f l) → sum_to g n ≡ sum_to f n + x
@@ -245,7 +245,7 @@ deliver_passed v r ok =
     let month = passed (in_month v.ledger.stage) NoMonth _ kind.1 in
     (kind.0, must_accept (not (delivered_at (month_of v) r.number)) Again month.1)
 
-deliver_step : (row : List Meaning) (es : List Event) {v w : View} (r : Reading) (u : Unit {0}) → deliver_verdict v r ≡ accepted → DeliveryTaken v r w → Counted v.shape v.market row es v → Counted v.shape v.market row (delivered r (Ok u) ∷ es) w
+deliver_step : (row : List Meaning) (es : List Event) {v w : View} (r : Reading) (u : Unit {0}) → deliver_verdict v r ≡ accepted → DeliveryTaken v r w → Counted v.shape v.market row es v → Counted v.shape v.market row (deliver r (Ok u) ∷ es) w
 deliver_step row es {v} {w} r u ok m i =
     counted_by v.shape v.market row e es refl i
     (λ j h. ap (λ (x : View). get_or x.ledger.revenues.yearly j 0) m.left ∙ i.years j h)
@@ -260,7 +260,7 @@ deliver_step row es {v} {w} r u ok m i =
     (ap books_of m.left)
   where
     e : Event
-    e = delivered r (Ok u)
+    e = deliver r (Ok u)
 
     tests : (not (of_generator r.kind) ≡ true) × (not (is_some (licensee_at (month_of v) (r.number - 1))) ≡ true)
     tests = deliver_passed v r ok
@@ -283,7 +283,7 @@ fraction_shown c l None before kept = kept
 fraction_shown c l (Some d) before kept = refl
 
 module _ (every : EveryClosing) where
-  close_step : (row : List Meaning) (es : List Event) {v w : View} (readings deliveries : ℕ) (s s' : Sheet) (u : Unit {0}) (n : ℕ) → MonthClosed v readings deliveries n s' w → Counted v.shape v.market row es v → Counted v.shape v.market row (closed readings deliveries s (Ok u) s' ∷ es) w
+  close_step : (row : List Meaning) (es : List Event) {v w : View} (readings deliveries : ℕ) (s s' : Sheet) (u : Unit {0}) (n : ℕ) → MonthClosed v readings deliveries n s' w → Counted v.shape v.market row es v → Counted v.shape v.market row (close readings deliveries s (Ok u) s' ∷ es) w
   unfolding quantity
   close_step row es {v} {w} readings deliveries s s' u n m i =
       record {
@@ -296,9 +296,9 @@ module _ (every : EveryClosing) where
               carries = λ k h. (m.closed.account k h).carry_is ∙ sym (ap (λ (x : HeadLine). x.carry) (m.closed.line k h));
               fractions = fraction_kept;
             };
-        account =
+        balanced =
             let conserved = lawful.conserved in
-            let before = i.account in
+            let before = i.balanced in
             let fractions-were = sum_same (fraction_at (books_of v)) (last_fraction es) licensee_limit (λ l h. i.keeps.fractions l h) in
             let balances-were = sumℤ_same (λ k. (account_at (books_of v) k).balance) (last_balance es) count (λ k h. i.keeps.balances k h) in
             let carries-were = sum_same (λ k. (account_at (books_of v) k).carry) (last_carry es) count (λ k h. i.keeps.carries k h) in
@@ -320,7 +320,7 @@ module _ (every : EveryClosing) where
       count = head_number v.shape v.market row
 
       es' : List Event
-      es' = closed readings deliveries s (Ok u) s' ∷ es
+      es' = close readings deliveries s (Ok u) s' ∷ es
 
       lawful : Lawful (case_at v n) s' (books_of w)
       lawful = every (case_at v n) s' (books_of w) m.passed.filled m.closed
@@ -338,35 +338,35 @@ module _ (every : EveryClosing) where
     abbrev After : List Event → View → Type 0
     After es v = Counted shape market row es v
 
-    years : {es : List Event} {v w : View} (given : Row) (r : Result (Unit {0}) Refusal) → v.shape ≡ shape → v.market ≡ market → After es v → Year v given r w → After (filed given r ∷ es) w
+    years : {es : List Event} {v w : View} (given : Row) (r : Result (Unit {0}) Refusal) → v.shape ≡ shape → v.market ≡ market → After es v → Year v given r w → After (year given r ∷ es) w
     years {es} given (Ok u) a b i m = at_own shape market row a b (year_step row es given u m.1) i
-    years {es} given (Err why) a b i m = unmoved shape market row (filed given (Err why)) es refl refl refl refl m.1 i
+    years {es} given (Err why) a b i m = unmoved shape market row (year given (Err why)) es refl refl refl refl m.1 i
 
-    tariffs : {es : List Event} {v w : View} (given : Filing) (r : Result (Unit {0}) Refusal) → v.shape ≡ shape → v.market ≡ market → After es v → Tariff v given r w → After (priced given r ∷ es) w
+    tariffs : {es : List Event} {v w : View} (given : Filing) (r : Result (Unit {0}) Refusal) → v.shape ≡ shape → v.market ≡ market → After es v → Tariff v given r w → After (tariff given r ∷ es) w
     tariffs {es} given (Ok u) a b i m = at_own shape market row a b (tariff_step row es given u m) i
-    tariffs {es} given (Err why) a b i m = unmoved shape market row (priced given (Err why)) es refl refl refl refl m.1 i
+    tariffs {es} given (Err why) a b i m = unmoved shape market row (tariff given (Err why)) es refl refl refl refl m.1 i
 
-    meters : {es : List Event} {hand : List PayOrder} {v w : View} (given : Reading) (r : Result (Unit {0}) Refusal) → Held shape market row serial es hand v → After es v → Meter v given r w → After (metered given r ∷ es) w
-    meters {es} given (Ok u) h i m = at_own shape market row h.shape_is h.market_is (meter_step row es given u (h.standing given.number) m.1) i
-    meters {es} given (Err why) h i m = unmoved shape market row (metered given (Err why)) es refl refl refl refl m.1 i
+    meters : {es : List Event} {hand : List PayOrder} {v w : View} (given : Reading) (r : Result ℕ Refusal) → Held shape market row serial es hand v → After es v → Meter v given r w → After (meter given r ∷ es) w
+    meters {es} given (Ok dues) h i m = at_own shape market row h.shape_is h.market_is (meter_step row es given dues (h.standing given.number) m.1) i
+    meters {es} given (Err why) h i m = unmoved shape market row (meter given (Err why)) es refl refl refl refl m.1 i
 
-    delivers : {es : List Event} {v w : View} (given : Reading) (r : Result (Unit {0}) Refusal) → v.shape ≡ shape → v.market ≡ market → After es v → Deliver v given r w → After (delivered given r ∷ es) w
+    delivers : {es : List Event} {v w : View} (given : Reading) (r : Result (Unit {0}) Refusal) → v.shape ≡ shape → v.market ≡ market → After es v → Deliver v given r w → After (deliver given r ∷ es) w
     delivers {es} given (Ok u) a b i m = at_own shape market row a b (deliver_step row es given u m.0 m.1) i
-    delivers {es} given (Err why) a b i m = unmoved shape market row (delivered given (Err why)) es refl refl refl refl m.1 i
+    delivers {es} given (Err why) a b i m = unmoved shape market row (deliver given (Err why)) es refl refl refl refl m.1 i
 
-    closes : {es : List Event} {v w : View} (readings deliveries : ℕ) (s s' : Sheet) (r : Result (Unit {0}) Refusal) → v.shape ≡ shape → v.market ≡ market → After es v → Close v readings deliveries s r w s' → After (closed readings deliveries s r s' ∷ es) w
+    closes : {es : List Event} {v w : View} (readings deliveries : ℕ) (s s' : Sheet) (r : Result (Unit {0}) Refusal) → v.shape ≡ shape → v.market ≡ market → After es v → Close v readings deliveries s r w s' → After (close readings deliveries s r s' ∷ es) w
     closes {es} readings deliveries s s' (Ok u) a b i m = at_own shape market row a b (close_step row es readings deliveries s s' u m.0 m.1) i
-    closes {es} readings deliveries s s' (Err why) a b i m = unmoved shape market row (closed readings deliveries s (Err why) s') es refl refl refl refl m.1 i
+    closes {es} readings deliveries s s' (Err why) a b i m = unmoved shape market row (close readings deliveries s (Err why) s') es refl refl refl refl m.1 i
 
-    draws : {es : List Event} {v w : View} (p : ℕ) (r : Result PayOrder Refusal) → After es v → Draw v p r w → After (drew p r ∷ es) w
-    draws {es} p (Ok o) i m = quiet shape market row (drew p (Ok o)) es refl refl refl refl (ap (λ (u : View). u.ledger.revenues) m.1.left) (ap month_of m.1.left) (ap books_of m.1.left) i
-    draws {es} p (Err why) i m = unmoved shape market row (drew p (Err why)) es refl refl refl refl m.1 i
+    draws : {es : List Event} {v w : View} (p : ℕ) (r : Result PayOrder Refusal) → After es v → Draw v p r w → After (draw p r ∷ es) w
+    draws {es} p (Ok o) i m = quiet shape market row (draw p (Ok o)) es refl refl refl refl (ap (λ (u : View). u.ledger.revenues) m.1.left) (ap month_of m.1.left) (ap books_of m.1.left) i
+    draws {es} p (Err why) i m = unmoved shape market row (draw p (Err why)) es refl refl refl refl m.1 i
 
-    releases : {es : List Event} {v w : View} (o : PayOrder) (r : Result Paid Returned) → After es v → Release v o r w → After (released o r ∷ es) w
-    releases {es} o r i m = quiet shape market row (released o r) es refl refl refl refl (ap (λ (u : View). u.ledger.revenues) m.left) (ap month_of m.left) (ap books_of m.left) i
+    releases : {es : List Event} {v w : View} (o : PayOrder) (r : Result Paid Returned) → After es v → Release v o r w → After (release o r ∷ es) w
+    releases {es} o r i m = quiet shape market row (release o r) es refl refl refl refl (ap (λ (u : View). u.ledger.revenues) m.left) (ap month_of m.left) (ap books_of m.left) i
 
-    holds : {es : List Event} {v w : View} (o : PayOrder) (r : Result (Unit {0}) Returned) → After es v → Hold v o r w → After (held o r ∷ es) w
-    holds {es} o r i m = quiet shape market row (held o r) es refl refl refl refl (ap (λ (u : View). u.ledger.revenues) m.left) (ap month_of m.left) (ap books_of m.left) i
+    holds : {es : List Event} {v w : View} (o : PayOrder) (r : Result (Unit {0}) Returned) → After es v → Hold v o r w → After (hold o r ∷ es) w
+    holds {es} o r i m = quiet shape market row (hold o r) es refl refl refl refl (ap (λ (u : View). u.ledger.revenues) m.left) (ap month_of m.left) (ap books_of m.left) i
 
     counted_after : {es : List Event} {hand : List PayOrder} {v : View} → Run shape market row serial es hand v → After es v
     counted_after (new {v} shape_is market_is row_is n) =
@@ -380,7 +380,7 @@ module _ (every : EveryClosing) where
                 carries = λ k h. n.unused.carries k (let most = few shape market row in omega arith);
                 fractions = λ l h. n.unused.fractions l h;
               };
-          account =
+          balanced =
               let count = head_number shape market row in
               let fractions = sum_zero licensee_limit in
               let balances = sumℤ_zero count in
@@ -388,21 +388,21 @@ module _ (every : EveryClosing) where
               omega (arith, ints);
           carries = λ k h. refl;
         }
-    counted_after (year {given} {r} run m) = let h = held_after shape market row serial run in years given r h.shape_is h.market_is (counted_after run) m
-    counted_after (tariff {given} {r} run m) = let h = held_after shape market row serial run in tariffs given r h.shape_is h.market_is (counted_after run) m
-    counted_after (meter {given} {r} run m) = meters given r (held_after shape market row serial run) (counted_after run) m
-    counted_after (deliver {given} {r} run m) = let h = held_after shape market row serial run in delivers given r h.shape_is h.market_is (counted_after run) m
-    counted_after (close {readings} {deliveries} {s} {s'} {r} run m) = let h = held_after shape market row serial run in closes readings deliveries s s' r h.shape_is h.market_is (counted_after run) m
-    counted_after (draw {place} {r} run m) = draws place r (counted_after run) m
-    counted_after (release {o} {r} run h m) = releases o r (counted_after run) m
-    counted_after (hold {o} {r} run h m) = holds o r (counted_after run) m
+    counted_after (step (year given r) rest run m h) = let k = held_after shape market row serial run in years given r k.shape_is k.market_is (counted_after run) m
+    counted_after (step (tariff given r) rest run m h) = let k = held_after shape market row serial run in tariffs given r k.shape_is k.market_is (counted_after run) m
+    counted_after (step (meter given r) rest run m h) = meters given r (held_after shape market row serial run) (counted_after run) m
+    counted_after (step (deliver given r) rest run m h) = let k = held_after shape market row serial run in delivers given r k.shape_is k.market_is (counted_after run) m
+    counted_after (step (close readings deliveries s r s') rest run m h) = let k = held_after shape market row serial run in closes readings deliveries s s' r k.shape_is k.market_is (counted_after run) m
+    counted_after (step (draw p r) rest run m h) = draws p r (counted_after run) m
+    counted_after (step (release o r) rest run m h) = releases o r (counted_after run) m
+    counted_after (step (hold o r) rest run m h) = holds o r (counted_after run) m
 
     pub every_run : EveryRun shape market row serial
     every_run es hand v run =
         let c = counted_after run in
         let h = held_after shape market row serial run in
         record {
-          account = c.account;
+          balanced = c.balanced;
           places = h.money;
           fractions = λ l k. rw (sym (c.keeps.fractions l k)) ((books_of v).cents l k);
           carries = c.carries;

@@ -14,14 +14,14 @@ use Rattle.orders.specs.declared.order.PayOrder.{PayOrder}
 use Rattle.orders.specs.declared.order.Paid.{Paid}
 use Rattle.orders.specs.declared.order.Returned.{Returned}
 use Rattle.orders.specs.declared.till.Till.{Till}
-use Rattle.orders.specs.Limits.{cent}
+use Rattle.arith.specs.Money.{cent}
 use Rattle.orders.specs.Tills.{stands, ordered_at, mine, Puts}
-use Rattle.ledger.specs.declared.kept.Ledger.{Ledger}
+use Rattle.ledger.specs.declared.ledger.Ledger.{Ledger}
 use Rattle.ledger.specs.declared.refusal.Refusal.{Refusal}
 use Rattle.ledger.specs.Views.{View, till_of, with_ledger}
 use Rattle.ledger.specs.Terms.{worth, dues_at, place_after, given_at}
 use Rattle.ledger.specs.Calls.{Year, Tariff, Meter, Metered, Deliver, Close, Draw, OrderDrawn, Release, Hold}
-use Rattle.ledger.specs.Runs.{Event, filed, priced, metered, delivered, closed, drew, released, held, Among, Presents, own, other, with_drawn, with_presented, Run, new, year, tariff, meter, deliver, close, draw, release, hold}
+use Rattle.ledger.specs.Runs.{Event, year, tariff, meter, deliver, close, draw, release, hold, Among, Presents, own, other, with_drawn, with_presented, Run, new, step}
 use Rattle.ledger.specs.Accepted.{some_or, reading_of, payment_of, accepted_at, paid_at, cents_at, in_hand}
 use Rattle.ledger.specs.Law.{Settled}
 use Rattle.ledger.proofs.Terms.{place_after_more, given_at_more, at_moved}
@@ -68,14 +68,14 @@ module _ (shape : Shape) (market : Market) (row : List Meaning) (serial : ℕ) w
   idle : (e : Event) {es : List Event} {hand : List PayOrder} {v w : View} → reading_of e ≡ None → payment_of e ≡ None → w ≡ v → Held es hand v → Held (e ∷ es) hand w
   idle e {v = v} read paid same i = still e {l = v.ledger} read paid same refl i
 
-  meter_step : {es : List Event} {hand : List PayOrder} {v w : View} (r : Reading) (u : Unit {0}) → Held es hand v → Metered v r w → Held (metered r (Ok u) ∷ es) hand w
-  meter_step {es} {hand} {v} {w} r u i m =
+  meter_step : {es : List Event} {hand : List PayOrder} {v w : View} (r : Reading) (dues : ℕ) → Held es hand v → Metered v r dues w → Held (meter r (Ok dues) ∷ es) hand w
+  meter_step {es} {hand} {v} {w} r dues i m =
       record {
         shape_is = ap (λ (u : View). u.shape) m.left ∙ i.shape_is;
         market_is = ap (λ (u : View). u.market) m.left ∙ i.market_is;
         serial_is = m.credited.serial_is ∙ i.serial_is;
         standing =
-            by_place (λ p. at_place w.row p ≡ place_after (at_place row p) (accepted_at p (metered r (Ok u) ∷ es))) q
+            by_place (λ p. at_place w.row p ≡ place_after (at_place row p) (accepted_at p (meter r (Ok dues) ∷ es))) q
             (ap (λ ms. at_place ms q) m.booked.there ∙ at_moved v.row q r ∙ ap (option_map (λ m. moved m r)) (i.standing q)
             ∙ sym (place_after_more (at_place row q) (accepted_at q es) r) ∙ ap (place_after (at_place row q)) (sym more))
             (λ p ne. m.booked.elsewhere p ne ∙ i.standing p ∙ ap (place_after (at_place row p)) (sym (no_more p ne)));
@@ -85,11 +85,11 @@ module _ (shape : Shape) (market : Market) (row : List Meaning) (serial : ℕ) w
             (λ p ne some. m.credited.others_on_orders p some ne ∙ i.on p some);
         bear = i.bear;
         money =
-            by_place (λ p. 1 ≤ p → Settled shape market row (metered r (Ok u) ∷ es) hand w p) q
+            by_place (λ p. 1 ≤ p → Settled shape market row (meter r (Ok dues) ∷ es) hand w p) q
             (λ some.
             let before = i.money q some in
             let now-stands = m.credited.standing_is in
-            let due = ap (λ place. worth (dues_at place r)) (i.standing q) in
+            let due = m.due ∙ ap (λ place. worth (dues_at place r)) (i.standing q) in
             let given = ap (given_at (at_place row q)) more ∙ given_at_more (at_place row q) (accepted_at q es) r in
             omega arith)
             (λ p ne some.
@@ -102,13 +102,13 @@ module _ (shape : Shape) (market : Market) (row : List Meaning) (serial : ℕ) w
       q : ℕ
       q = r.number
 
-      more : accepted_at q (metered r (Ok u) ∷ es) ≡ accepted_at q es ++ (r ∷ [])
+      more : accepted_at q (meter r (Ok dues) ∷ es) ≡ accepted_at q es ++ (r ∷ [])
       more = ap (λ rs. accepted_at q es ++ rs) (here q (r ∷ []) [])
 
-      no_more : (p : ℕ) → (p ≡ q → ⊥) → accepted_at p (metered r (Ok u) ∷ es) ≡ accepted_at p es
+      no_more : (p : ℕ) → (p ≡ q → ⊥) → accepted_at p (meter r (Ok dues) ∷ es) ≡ accepted_at p es
       no_more p ne = ap (λ rs. accepted_at p es ++ rs) (elsewhere q p (r ∷ []) [] ne) ∙ append-nil (accepted_at p es)
 
-  draw_step : {es : List Event} {hand : List PayOrder} {v w : View} (q : ℕ) (o : PayOrder) → Held es hand v → OrderDrawn v q o w → Held (drew q (Ok o) ∷ es) (hand ++ o ∷ []) w
+  draw_step : {es : List Event} {hand : List PayOrder} {v w : View} (q : ℕ) (o : PayOrder) → Held es hand v → OrderDrawn v q o w → Held (draw q (Ok o) ∷ es) (hand ++ o ∷ []) w
   draw_step {es} {hand} {v} {w} q o i m =
       record {
         shape_is = ap (λ (u : View). u.shape) m.left ∙ i.shape_is;
@@ -121,7 +121,7 @@ module _ (shape : Shape) (market : Market) (row : List Meaning) (serial : ℕ) w
             (λ p ne some. let before = i.on p some in let put = m.drawn.left.others_on_orders p some ne in let cents = cents_of_p p ne in let more = in_hand_more p hand o in omega arith);
         bear = bear_more serial hand o (m.drawn.serial_of ∙ i.serial_is) i.bear;
         money =
-            by_place (λ p. 1 ≤ p → Settled shape market row (drew q (Ok o) ∷ es) (hand ++ o ∷ []) w p) q
+            by_place (λ p. 1 ≤ p → Settled shape market row (draw q (Ok o) ∷ es) (hand ++ o ∷ []) w p) q
             (λ some.
             let before = i.money q some in
             let given = ap (given_at (at_place row q)) (append-nil (accepted_at q es)) in
@@ -181,45 +181,45 @@ module _ (shape : Shape) (market : Market) (row : List Meaning) (serial : ℕ) w
               omega arith;
         }
 
-  release_step : {es : List Event} {hand rest : List PayOrder} {v w : View} (o : PayOrder) (r : Result Paid Returned) → Held es hand v → Presents serial o hand rest → Release v o r w → Held (released o r ∷ es) (with_presented r hand rest) w
+  release_step : {es : List Event} {hand rest : List PayOrder} {v w : View} (o : PayOrder) (r : Result Paid Returned) → Held es hand v → Presents serial o hand rest → Release v o r w → Held (release o r ∷ es) (with_presented r hand rest) w
   release_step {es} {v = v} {w = w} o (Ok paid) i h m =
-      spent_step w i (stands (till_of v) o.place) m.released.2 (taken i h m.released.0) (released o (Ok paid)) refl m.left
-      (by_place (λ p. 1 ≤ p → cent * paid_at p (released o (Ok paid) ∷ es) + stands (till_of w) p ≡ cent * paid_at p es + stands (till_of v) p + cent * cents_at p o) o.place
+      spent_step w i (stands (till_of v) o.place) m.released.2 (taken i h m.released.0) (release o (Ok paid)) refl m.left
+      (by_place (λ p. 1 ≤ p → cent * paid_at p (release o (Ok paid) ∷ es) + stands (till_of w) p ≡ cent * paid_at p es + stands (till_of v) p + cent * cents_at p o) o.place
       (λ some. let put = m.released.2.standing_is in omega arith)
       (λ p ne some. let put = m.released.2.others_stand p some ne in omega arith))
-  release_step o (Err back) i h m = still (released o (Err back)) refl refl m.left m.released.same i
+  release_step o (Err back) i h m = still (release o (Err back)) refl refl m.left m.released.same i
 
-  hold_step : {es : List Event} {hand rest : List PayOrder} {v w : View} (o : PayOrder) (r : Result (Unit {0}) Returned) → Held es hand v → Presents serial o hand rest → Hold v o r w → Held (held o r ∷ es) (with_presented r hand rest) w
+  hold_step : {es : List Event} {hand rest : List PayOrder} {v w : View} (o : PayOrder) (r : Result (Unit {0}) Returned) → Held es hand v → Presents serial o hand rest → Hold v o r w → Held (hold o r ∷ es) (with_presented r hand rest) w
   hold_step {es} {v = v} {w = w} o (Ok u) i h m =
-      spent_step w i (stands (till_of v) o.place + cent * o.cents) m.held.1 (taken i h m.held.0) (held o (Ok u)) refl m.left
-      (by_place (λ p. 1 ≤ p → cent * paid_at p (held o (Ok u) ∷ es) + stands (till_of w) p ≡ cent * paid_at p es + stands (till_of v) p + cent * cents_at p o) o.place
+      spent_step w i (stands (till_of v) o.place + cent * o.cents) m.held.1 (taken i h m.held.0) (hold o (Ok u)) refl m.left
+      (by_place (λ p. 1 ≤ p → cent * paid_at p (hold o (Ok u) ∷ es) + stands (till_of w) p ≡ cent * paid_at p es + stands (till_of v) p + cent * cents_at p o) o.place
       (λ some. let put = m.held.1.standing_is in let cents = cents_here o in omega arith)
       (λ p ne some. let put = m.held.1.others_stand p some ne in let cents = cents_there o p ne in omega arith))
-  hold_step o (Err back) i h m = still (held o (Err back)) refl refl m.left m.held.same i
+  hold_step o (Err back) i h m = still (hold o (Err back)) refl refl m.left m.held.same i
 
-  year_step : {es : List Event} {hand : List PayOrder} {v w : View} (given : Row) (r : Result (Unit {0}) Refusal) → Held es hand v → Year v given r w → Held (filed given r ∷ es) hand w
-  year_step given (Ok u) i m = still (filed given (Ok u)) refl refl m.1.left refl i
-  year_step given (Err why) i m = idle (filed given (Err why)) refl refl m.1 i
+  year_step : {es : List Event} {hand : List PayOrder} {v w : View} (given : Row) (r : Result (Unit {0}) Refusal) → Held es hand v → Year v given r w → Held (year given r ∷ es) hand w
+  year_step given (Ok u) i m = still (year given (Ok u)) refl refl m.1.left refl i
+  year_step given (Err why) i m = idle (year given (Err why)) refl refl m.1 i
 
-  tariff_step : {es : List Event} {hand : List PayOrder} {v w : View} (given : Filing) (r : Result (Unit {0}) Refusal) → Held es hand v → Tariff v given r w → Held (priced given r ∷ es) hand w
-  tariff_step given (Ok u) i m = still (priced given (Ok u)) refl refl m.1.left refl i
-  tariff_step given (Err why) i m = idle (priced given (Err why)) refl refl m.1 i
+  tariff_step : {es : List Event} {hand : List PayOrder} {v w : View} (given : Filing) (r : Result (Unit {0}) Refusal) → Held es hand v → Tariff v given r w → Held (tariff given r ∷ es) hand w
+  tariff_step given (Ok u) i m = still (tariff given (Ok u)) refl refl m.1.left refl i
+  tariff_step given (Err why) i m = idle (tariff given (Err why)) refl refl m.1 i
 
-  meters : {es : List Event} {hand : List PayOrder} {v w : View} (given : Reading) (r : Result (Unit {0}) Refusal) → Held es hand v → Meter v given r w → Held (metered given r ∷ es) hand w
-  meters given (Ok u) i m = meter_step given u i m.1
-  meters given (Err why) i m = idle (metered given (Err why)) refl refl m.1 i
+  meters : {es : List Event} {hand : List PayOrder} {v w : View} (given : Reading) (r : Result ℕ Refusal) → Held es hand v → Meter v given r w → Held (meter given r ∷ es) hand w
+  meters given (Ok dues) i m = meter_step given dues i m.1
+  meters given (Err why) i m = idle (meter given (Err why)) refl refl m.1 i
 
-  deliver_step : {es : List Event} {hand : List PayOrder} {v w : View} (given : Reading) (r : Result (Unit {0}) Refusal) → Held es hand v → Deliver v given r w → Held (delivered given r ∷ es) hand w
-  deliver_step given (Ok u) i m = still (delivered given (Ok u)) refl refl m.1.left refl i
-  deliver_step given (Err why) i m = idle (delivered given (Err why)) refl refl m.1 i
+  deliver_step : {es : List Event} {hand : List PayOrder} {v w : View} (given : Reading) (r : Result (Unit {0}) Refusal) → Held es hand v → Deliver v given r w → Held (deliver given r ∷ es) hand w
+  deliver_step given (Ok u) i m = still (deliver given (Ok u)) refl refl m.1.left refl i
+  deliver_step given (Err why) i m = idle (deliver given (Err why)) refl refl m.1 i
 
-  close_step : {es : List Event} {hand : List PayOrder} {v w : View} (readings deliveries : ℕ) (s s' : Sheet) (r : Result (Unit {0}) Refusal) → Held es hand v → Close v readings deliveries s r w s' → Held (closed readings deliveries s r s' ∷ es) hand w
-  close_step readings deliveries s s' (Ok u) i m = still (closed readings deliveries s (Ok u) s') refl refl m.1.left refl i
-  close_step readings deliveries s s' (Err why) i m = idle (closed readings deliveries s (Err why) s') refl refl m.1 i
+  close_step : {es : List Event} {hand : List PayOrder} {v w : View} (readings deliveries : ℕ) (s s' : Sheet) (r : Result (Unit {0}) Refusal) → Held es hand v → Close v readings deliveries s r w s' → Held (close readings deliveries s r s' ∷ es) hand w
+  close_step readings deliveries s s' (Ok u) i m = still (close readings deliveries s (Ok u) s') refl refl m.1.left refl i
+  close_step readings deliveries s s' (Err why) i m = idle (close readings deliveries s (Err why) s') refl refl m.1 i
 
-  draws : {es : List Event} {hand : List PayOrder} {v w : View} (p : ℕ) (r : Result PayOrder Refusal) → Held es hand v → Draw v p r w → Held (drew p r ∷ es) (with_drawn r hand) w
+  draws : {es : List Event} {hand : List PayOrder} {v w : View} (p : ℕ) (r : Result PayOrder Refusal) → Held es hand v → Draw v p r w → Held (draw p r ∷ es) (with_drawn r hand) w
   draws p (Ok o) i m = draw_step p o i m.1
-  draws p (Err why) i m = idle (drew p (Err why)) refl refl m.1 i
+  draws p (Err why) i m = idle (draw p (Err why)) refl refl m.1 i
 
   pub held_after : {es : List Event} {hand : List PayOrder} {v : View} → Run shape market row serial es hand v → Held es hand v
   held_after (new {v} shape_is market_is row_is n) =
@@ -240,11 +240,11 @@ module _ (shape : Shape) (market : Market) (row : List Meaning) (serial : ℕ) w
       nothing_given : (place : Option Meaning) → given_at place [] ≡ 0
       nothing_given None = refl
       nothing_given (Some m) = refl
-  held_after (year {given} {r} run m) = year_step given r (held_after run) m
-  held_after (tariff {given} {r} run m) = tariff_step given r (held_after run) m
-  held_after (meter {given} {r} run m) = meters given r (held_after run) m
-  held_after (deliver {given} {r} run m) = deliver_step given r (held_after run) m
-  held_after (close {readings} {deliveries} {s} {s'} {r} run m) = close_step readings deliveries s s' r (held_after run) m
-  held_after (draw {place} {r} run m) = draws place r (held_after run) m
-  held_after (release {o} {r} run h m) = release_step o r (held_after run) h m
-  held_after (hold {o} {r} run h m) = hold_step o r (held_after run) h m
+  held_after (step (year given r) rest run m h) = year_step given r (held_after run) m
+  held_after (step (tariff given r) rest run m h) = tariff_step given r (held_after run) m
+  held_after (step (meter given r) rest run m h) = meters given r (held_after run) m
+  held_after (step (deliver given r) rest run m h) = deliver_step given r (held_after run) m
+  held_after (step (close readings deliveries s r s') rest run m h) = close_step readings deliveries s s' r (held_after run) m
+  held_after (step (draw p r) rest run m h) = draws p r (held_after run) m
+  held_after (step (release o r) rest run m h) = release_step o r (held_after run) h m
+  held_after (step (hold o r) rest run m h) = hold_step o r (held_after run) h m

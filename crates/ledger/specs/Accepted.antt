@@ -13,7 +13,7 @@ use Rattle.accounts.specs.Sheets.{line_at, billed_at}
 use Rattle.settlement.specs.Law.{bills_on}
 use Rattle.orders.specs.declared.order.PayOrder.{PayOrder}
 use Rattle.ledger.specs.Terms.{worth, dues_at, place_after}
-use Rattle.ledger.specs.Runs.{Event, filed, priced, metered, delivered, closed, drew, released, held}
+use Rattle.ledger.specs.Runs.{Event, year, meter, deliver, close, release}
 
 -- something where there is one, and else the first
 abbrev pub some_or : {A B : Type 0} → Option A → B → (A → B) → B
@@ -26,58 +26,28 @@ if_accepted (Err _) x = None
 
 -- the revenues of an accepted year
 abbrev pub year_of : Event → Option Row
-year_of (filed given r) = if_accepted r given
-year_of (priced given r) = None
-year_of (metered given r) = None
-year_of (delivered given r) = None
-year_of (closed readings deliveries s r s') = None
-year_of (drew place r) = None
-year_of (released o r) = None
-year_of (held o r) = None
+year_of (year filed answer) = if_accepted answer filed
+year_of _ = None
 
 -- a reading that meter accepted
 abbrev pub reading_of : Event → Option Reading
-reading_of (filed given r) = None
-reading_of (priced given r) = None
-reading_of (metered given r) = if_accepted r given
-reading_of (delivered given r) = None
-reading_of (closed readings deliveries s r s') = None
-reading_of (drew place r) = None
-reading_of (released o r) = None
-reading_of (held o r) = None
+reading_of (meter r answer) = if_accepted answer r
+reading_of _ = None
 
 -- a reading that deliver accepted
 abbrev pub delivery_of : Event → Option Reading
-delivery_of (filed given r) = None
-delivery_of (priced given r) = None
-delivery_of (metered given r) = None
-delivery_of (delivered given r) = if_accepted r given
-delivery_of (closed readings deliveries s r s') = None
-delivery_of (drew place r) = None
-delivery_of (released o r) = None
-delivery_of (held o r) = None
+delivery_of (deliver r answer) = if_accepted answer r
+delivery_of _ = None
 
 -- the sheet of an accepted closing
 abbrev pub sheet_of : Event → Option Sheet
-sheet_of (filed given r) = None
-sheet_of (priced given r) = None
-sheet_of (metered given r) = None
-sheet_of (delivered given r) = None
-sheet_of (closed readings deliveries s r s') = if_accepted r s'
-sheet_of (drew place r) = None
-sheet_of (released o r) = None
-sheet_of (held o r) = None
+sheet_of (close readings deliveries s answer s') = if_accepted answer s'
+sheet_of _ = None
 
 -- an order that was released
 abbrev pub payment_of : Event → Option PayOrder
-payment_of (filed given r) = None
-payment_of (priced given r) = None
-payment_of (metered given r) = None
-payment_of (delivered given r) = None
-payment_of (closed readings deliveries s r s') = None
-payment_of (drew place r) = None
-payment_of (released o r) = if_accepted r o
-payment_of (held o r) = None
+payment_of (release o answer) = if_accepted answer o
+payment_of _ = None
 
 -- the readings that meter accepted at a place, the oldest first
 abbrev pub accepted_at : ℕ → List Event → List Reading

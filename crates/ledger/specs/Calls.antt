@@ -1,8 +1,10 @@
 -- What each call of a house answers and leaves: a relation between what the house shows before and after.
 use Rattle.std.specs.Prelude.{◌≡◌, ℕ, ◌+◌, Bool, true, false, not, ◌⊎◌, is_some, Ok, Err, Result, nat_le, slice_index}
-use Rattle.metering.specs.declared.reading.Kind.{Kind}
-use Rattle.metering.specs.declared.reading.Kind.TheVariants.{Generator, Licensee}
+use Rattle.arith.specs.Money.{cent}
+use Rattle.metering.specs.declared.kind.Kind.{Kind}
+use Rattle.metering.specs.declared.kind.Kind.TheVariants.{Generator, Licensee}
 use Rattle.metering.specs.declared.reading.Reading.{Reading}
+use Rattle.agreements.specs.declared.dues.Dues.{Dues}
 use Rattle.banks.specs.Rows.{at_place, outcome_at, Books as Booked}
 use Rattle.rates.specs.Heads.{unset, rates_at}
 use Rattle.accounts.specs.declared.sheet.Sheet.{Sheet}
@@ -19,14 +21,14 @@ use Rattle.settlement.specs.Closed.{Closed, Passed, Refused}
 use Rattle.orders.specs.declared.order.PayOrder.{PayOrder}
 use Rattle.orders.specs.declared.order.Paid.{Paid}
 use Rattle.orders.specs.declared.order.Returned.{Returned}
-use Rattle.orders.specs.Limits.{cent}
 use Rattle.orders.specs.Tills.{stands, ordered_at, room, New, Puts, Drawn, Releases, Holds}
 use Rattle.ledger.specs.declared.stage.Half.{Half}
 use Rattle.ledger.specs.declared.stage.Stage.TheVariants.{BeforeYear, BeforeTariff, InMonth}
 use Rattle.ledger.specs.declared.refusal.Refusal.{Refusal}
 use Rattle.ledger.specs.declared.refusal.Refusal.TheVariants.{WrongKind, NoMonth, NoPlace, Again, TooMuch, NotNow, Misallowed, UnderACent}
 use Rattle.ledger.specs.Refusals.{of_tariff, of_close}
-use Rattle.ledger.specs.Views.{View, rules, till_of, month_of, books_of, with_year, with_tariff, with_month, with_closed, with_till, with_reading, first_month, after_month, before_year, before_tariff, in_month}
+use Rattle.ledger.specs.Stages.{first_month, after_month, before_year, before_tariff, in_month}
+use Rattle.ledger.specs.Views.{View, rules, till_of, month_of, books_of, with_year, with_tariff, with_month, with_closed, with_till, with_reading}
 use Rattle.ledger.specs.Verdicts.{Verdict, accepted, refused, must, bank_says, ◌and_then◌}
 use Rattle.ledger.specs.Terms.{worth, dues_at}
 
@@ -75,7 +77,11 @@ abbrev pub Tariff : View → Filing → Result (Unit {0}) Refusal → View → T
 Tariff v filing (Ok _) w = (half : Half) × TariffPublished v filing half w
 Tariff v filing (Err why) w = TariffRefused v filing why × (w ≡ v)
 
--- Meter
+-- Meter: the answer is what the reading's station is due, in grains
+
+-- what the agreement at the reading's place gives for it, at that place's standing
+abbrev pub dues_for : View → Reading → Dues
+dues_for v r = dues_at (at_place v.row r.number) r
 
 abbrev pub of_generator : Kind → Bool
 of_generator Generator = true
@@ -88,16 +94,17 @@ meter_verdict v r =
     and_then must (is_some (at_place v.row r.number)) NoPlace
     and_then must (not (read_at (month_of v) r.number)) Again
     and_then bank_says (outcome_at (at_place v.row r.number) r)
-    and_then must (room (till_of v) r.number (worth (dues_at (at_place v.row r.number) r))) TooMuch
+    and_then must (room (till_of v) r.number (worth (dues_for v r))) TooMuch
 
-pub record Metered (v : View) (r : Reading) (w : View) : Type 0 where
+pub record Metered (v : View) (r : Reading) (dues : ℕ) (w : View) : Type 0 where
+  pub due : dues ≡ worth (dues_for v r)
   pub booked : Booked v.row r.number r w.row
-  pub added : Generated (rules v) (month_of v) r (dues_at (at_place v.row r.number) r) (month_of w)
-  pub credited : Puts (till_of v) r.number (stands (till_of v) r.number + worth (dues_at (at_place v.row r.number) r)) (ordered_at (till_of v) r.number) (till_of w)
+  pub added : Generated (rules v) (month_of v) r (dues_for v r) (month_of w)
+  pub credited : Puts (till_of v) r.number (stands (till_of v) r.number + dues) (ordered_at (till_of v) r.number) (till_of w)
   pub left : w ≡ with_reading v w.row (month_of w) (till_of w)
 
-abbrev pub Meter : View → Reading → Result (Unit {0}) Refusal → View → Type 0
-Meter v r (Ok _) w = (meter_verdict v r ≡ accepted) × Metered v r w
+abbrev pub Meter : View → Reading → Result ℕ Refusal → View → Type 0
+Meter v r (Ok dues) w = (meter_verdict v r ≡ accepted) × Metered v r dues w
 Meter v r (Err why) w = (meter_verdict v r ≡ refused why) × (w ≡ v)
 
 -- Deliver

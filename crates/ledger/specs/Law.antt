@@ -5,12 +5,12 @@ use Rattle.banks.specs.Rows.{at_place}
 use Rattle.methodology.specs.Meaning.{Meaning as Market}
 use Rattle.methodology.specs.declared.shape.Shape.{Shape}
 use Rattle.accounts.specs.declared.sheet.Sheet.{Sheet}
-use Rattle.accounts.specs.Limits.{licensee_limit}
+use Rattle.metering.specs.Limits.{licensee_limit}
 use Rattle.accounts.specs.Sums.{sum_to, sum_toℤ}
 use Rattle.accounts.specs.Rules.{rules_of, head_count}
 use Rattle.accounts.specs.Books.{account_at, fraction_at}
 use Rattle.orders.specs.declared.order.PayOrder.{PayOrder}
-use Rattle.orders.specs.Limits.{cent}
+use Rattle.arith.specs.Money.{cent}
 use Rattle.orders.specs.Tills.{stands}
 use Rattle.ledger.specs.Views.{View, till_of, books_of}
 use Rattle.ledger.specs.Terms.{given_at}
@@ -37,8 +37,8 @@ module _ (shape : Shape) (market : Market) (row : List Meaning) where
   costs es = pos (closed_dues row es) +ℤ pos (cent * allowed shape.revenues es)
 
   -- every grain of it is covered, and no more
-  abbrev pub Account : List Event → Type 0
-  Account es = covered es ≡ costs es
+  abbrev pub Balanced : List Event → Type 0
+  Balanced es = covered es ≡ costs es
 
   -- at a place: money released, on orders in hand and standing is what the terms give for the accepted readings
   abbrev pub Settled : List Event → List PayOrder → View → ℕ → Type 0
@@ -53,7 +53,7 @@ module _ (shape : Shape) (market : Market) (row : List Meaning) where
 
   -- all of it
   pub record Law (es : List Event) (hand : List PayOrder) (v : View) : Type 0 where
-    pub account : Account es
+    pub balanced : Balanced es
     pub places : (p : ℕ) → 1 ≤ p → Settled es hand v p
     pub fractions : (l : ℕ) → l < licensee_limit → last_fraction es l < cent
     pub carries : (k : ℕ) → k < head_number → Carried (last_sheet es) (last_quantity (rules_of shape market) es k) (last_carry es k)

@@ -1,5 +1,6 @@
 pub mod Refusals
 pub mod Text
+pub mod Stages
 pub mod Views
 pub mod Verdicts
 pub mod Terms

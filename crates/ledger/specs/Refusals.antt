@@ -8,8 +8,10 @@ use Rattle.tariffs.specs.declared.refusal.TariffFault.{TariffFault}
 use Rattle.tariffs.specs.declared.refusal.TariffFault.TheVariants as tariff
 use Rattle.settlement.specs.declared.fault.CloseFault.{CloseFault}
 use Rattle.settlement.specs.declared.fault.CloseFault.TheVariants as close
-use Rattle.orders.specs.declared.till.refusal.TillRefusal.{TillRefusal}
-use Rattle.orders.specs.declared.till.refusal.TillRefusal.TheVariants as till
+use Rattle.orders.specs.declared.till.CreditRefusal.{CreditRefusal}
+use Rattle.orders.specs.declared.till.CreditRefusal.TheVariants as credit
+use Rattle.orders.specs.declared.till.DrawRefusal.{DrawRefusal}
+use Rattle.orders.specs.declared.till.DrawRefusal.TheVariants as draw
 use Rattle.ledger.specs.declared.refusal.Refusal.{Refusal}
 use Rattle.ledger.specs.declared.refusal.Refusal.TheVariants.{WrongKind, NoMonth, NoPlace, Again, Agreement, TooMuch, NotNow, Misallowed, Misfiled, RateOutOfRange, Counts, NoQuantity, Supply, RateOverLimit, BalancePast, UnderACent}
 
@@ -34,67 +36,42 @@ number_of UnderACent = 21
 
 -- and its values: the agreement's cause and layer, or a head
 abbrev pub values_of : Refusal → List ℕ
-values_of WrongKind = []
-values_of NoMonth = []
-values_of NoPlace = []
-values_of Again = []
 values_of (Agreement fault) = cause_number fault.cause ∷ fault.layer ∷ []
-values_of TooMuch = []
-values_of NotNow = []
-values_of Misallowed = []
-values_of Misfiled = []
 values_of (RateOutOfRange head) = head ∷ []
-values_of Counts = []
 values_of (NoQuantity head) = head ∷ []
 values_of (Supply head) = head ∷ []
 values_of (RateOverLimit head) = head ∷ []
 values_of (BalancePast head) = head ∷ []
-values_of UnderACent = []
+values_of _ = []
 
 -- the head that it names, and the agreement's own fault, where it has one
 abbrev pub head_of : Refusal → Option ℕ
-head_of WrongKind = None
-head_of NoMonth = None
-head_of NoPlace = None
-head_of Again = None
-head_of (Agreement fault) = None
-head_of TooMuch = None
-head_of NotNow = None
-head_of Misallowed = None
-head_of Misfiled = None
 head_of (RateOutOfRange head) = Some head
-head_of Counts = None
 head_of (NoQuantity head) = Some head
 head_of (Supply head) = Some head
 head_of (RateOverLimit head) = Some head
 head_of (BalancePast head) = Some head
-head_of UnderACent = None
+head_of _ = None
 
 abbrev pub fault_of : Refusal → Option Fault
-fault_of WrongKind = None
-fault_of NoMonth = None
-fault_of NoPlace = None
-fault_of Again = None
 fault_of (Agreement fault) = Some fault
-fault_of TooMuch = None
-fault_of NotNow = None
-fault_of Misallowed = None
-fault_of Misfiled = None
-fault_of (RateOutOfRange head) = None
-fault_of Counts = None
-fault_of (NoQuantity head) = None
-fault_of (Supply head) = None
-fault_of (RateOverLimit head) = None
-fault_of (BalancePast head) = None
-fault_of UnderACent = None
+fault_of _ = None
 
--- a year, a tariff, a closing, a till and a bank, as the house tells their refusals; an agreement's fault goes up unaltered
+-- what a year, a tariff, a bank, a till and a closing refuse, as the house tells it; an agreement's fault goes up unaltered
 abbrev pub of_year : Refusal
 of_year = Misallowed
 
 abbrev pub of_tariff : TariffFault → Refusal
 of_tariff tariff.Misfiled = Misfiled
 of_tariff (tariff.OutOfRange head) = RateOutOfRange head
+
+abbrev pub of_bank : BankRefusal → Refusal
+of_bank bank.NoPlace = NoPlace
+of_bank (bank.Fault fault) = Agreement fault
+
+abbrev pub of_credit : CreditRefusal → Refusal
+of_credit credit.NoPlace = NoPlace
+of_credit credit.TooMuch = TooMuch
 
 abbrev pub of_close : CloseFault → Refusal
 of_close close.Counts = Counts
@@ -103,11 +80,6 @@ of_close (close.Supply head) = Supply head
 of_close (close.RateOverLimit head) = RateOverLimit head
 of_close (close.BalancePast head) = BalancePast head
 
-abbrev pub of_till : TillRefusal → Refusal
-of_till till.NoPlace = NoPlace
-of_till till.TooMuch = TooMuch
-of_till till.UnderACent = UnderACent
-
-abbrev pub of_bank : BankRefusal → Refusal
-of_bank bank.NoPlace = NoPlace
-of_bank (bank.Fault fault) = Agreement fault
+abbrev pub of_draw : DrawRefusal → Refusal
+of_draw draw.NoPlace = NoPlace
+of_draw draw.UnderACent = UnderACent

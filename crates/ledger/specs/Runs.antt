@@ -16,14 +16,25 @@ use Rattle.ledger.specs.Calls.{NewHouse, Year, Tariff, Meter, Deliver, Close, Dr
 
 -- a call with what it was given and what it answered; a closing with the sheet before it and after it
 pub data Event : Type 0 where
-  filed : Row → Result (Unit {0}) Refusal → Event
-  priced : Filing → Result (Unit {0}) Refusal → Event
-  metered : Reading → Result (Unit {0}) Refusal → Event
-  delivered : Reading → Result (Unit {0}) Refusal → Event
-  closed : (readings deliveries : ℕ) → Sheet → Result (Unit {0}) Refusal → Sheet → Event
-  drew : ℕ → Result PayOrder Refusal → Event
-  released : PayOrder → Result Paid Returned → Event
-  held : PayOrder → Result (Unit {0}) Returned → Event
+  year : Row → Result (Unit {0}) Refusal → Event
+  tariff : Filing → Result (Unit {0}) Refusal → Event
+  meter : Reading → Result ℕ Refusal → Event
+  deliver : Reading → Result (Unit {0}) Refusal → Event
+  close : (readings deliveries : ℕ) → Sheet → Result (Unit {0}) Refusal → Sheet → Event
+  draw : ℕ → Result PayOrder Refusal → Event
+  release : PayOrder → Result Paid Returned → Event
+  hold : PayOrder → Result (Unit {0}) Returned → Event
+
+-- the call is made: what the house shows before it, and what it leaves
+abbrev pub Step : View → Event → View → Type 0
+Step v (year filed answer) w = Year v filed answer w
+Step v (tariff filing answer) w = Tariff v filing answer w
+Step v (meter r answer) w = Meter v r answer w
+Step v (deliver r answer) w = Deliver v r answer w
+Step v (close readings deliveries s answer s') w = Close v readings deliveries s answer w s'
+Step v (draw p answer) w = Draw v p answer w
+Step v (release o answer) w = Release v o answer w
+Step v (hold o answer) w = Hold v o answer w
 
 -- an order of a list, and the others of the list
 pub data Among (o : PayOrder) : List PayOrder → List PayOrder → Type 0 where
@@ -45,16 +56,22 @@ abbrev pub with_presented : {X : Type 0} → Result X Returned → (hand rest : 
 with_presented (Ok _) hand rest = rest
 with_presented (Err _) hand rest = hand
 
+-- an event may present an order; `rest` are the orders in hand besides it, and all of them where none is presented
+abbrev pub Presented : ℕ → Event → (hand rest : List PayOrder) → Type 0
+Presented serial (release o answer) hand rest = Presents serial o hand rest
+Presented serial (hold o answer) hand rest = Presents serial o hand rest
+Presented serial _ hand rest = rest ≡ hand
+
+-- the orders in hand after it
+abbrev pub hand_after : Event → (hand rest : List PayOrder) → List PayOrder
+hand_after (draw p answer) hand rest = with_drawn answer hand
+hand_after (release o answer) hand rest = with_presented answer hand rest
+hand_after (hold o answer) hand rest = with_presented answer hand rest
+hand_after _ hand rest = hand
+
 -- the calls made to a house newly made over a bank and a methodology with these meanings, the last call first,
 -- with the orders in hand and what the house then shows
 module _ (shape : Shape) (market : Market) (row : List Meaning) (serial : ℕ) where
   pub data Run : List Event → List PayOrder → View → Type 0 where
     new : {v : View} → v.shape ≡ shape → v.market ≡ market → v.row ≡ row → NewHouse serial v → Run [] [] v
-    year : {es : List Event} {hand : List PayOrder} {v w : View} {given : Row} {r : Result (Unit {0}) Refusal} → Run es hand v → Year v given r w → Run (filed given r ∷ es) hand w
-    tariff : {es : List Event} {hand : List PayOrder} {v w : View} {given : Filing} {r : Result (Unit {0}) Refusal} → Run es hand v → Tariff v given r w → Run (priced given r ∷ es) hand w
-    meter : {es : List Event} {hand : List PayOrder} {v w : View} {given : Reading} {r : Result (Unit {0}) Refusal} → Run es hand v → Meter v given r w → Run (metered given r ∷ es) hand w
-    deliver : {es : List Event} {hand : List PayOrder} {v w : View} {given : Reading} {r : Result (Unit {0}) Refusal} → Run es hand v → Deliver v given r w → Run (delivered given r ∷ es) hand w
-    close : {es : List Event} {hand : List PayOrder} {v w : View} {readings deliveries : ℕ} {s s' : Sheet} {r : Result (Unit {0}) Refusal} → Run es hand v → Close v readings deliveries s r w s' → Run (closed readings deliveries s r s' ∷ es) hand w
-    draw : {es : List Event} {hand : List PayOrder} {v w : View} {place : ℕ} {r : Result PayOrder Refusal} → Run es hand v → Draw v place r w → Run (drew place r ∷ es) (with_drawn r hand) w
-    release : {es : List Event} {hand rest : List PayOrder} {v w : View} {o : PayOrder} {r : Result Paid Returned} → Run es hand v → Presents serial o hand rest → Release v o r w → Run (released o r ∷ es) (with_presented r hand rest) w
-    hold : {es : List Event} {hand rest : List PayOrder} {v w : View} {o : PayOrder} {r : Result (Unit {0}) Returned} → Run es hand v → Presents serial o hand rest → Hold v o r w → Run (held o r ∷ es) (with_presented r hand rest) w
+    step : {es : List Event} {hand : List PayOrder} {v w : View} (e : Event) (rest : List PayOrder) → Run es hand v → Step v e w → Presented serial e hand rest → Run (e ∷ es) (hand_after e hand rest) w

@@ -1,5 +1,5 @@
 -- What a house shows: its market, the meanings in its bank, and its ledger.
-use Rattle.std.specs.Prelude.{ℕ, ◌+◌, Bool, true, false, cond, List, ◌==◌, nat_le}
+use Rattle.std.specs.Prelude.{List}
 use Rattle.agreements.specs.Meaning.{Meaning}
 use Rattle.methodology.specs.Meaning.{Meaning as Market}
 use Rattle.methodology.specs.declared.shape.Shape.{Shape}
@@ -9,11 +9,10 @@ use Rattle.accounts.specs.declared.books.Books.{Books}
 use Rattle.accounts.specs.declared.month.Month.{Month}
 use Rattle.accounts.specs.Rules.{Rules, rules_of}
 use Rattle.orders.specs.declared.till.Till.{Till}
-use Rattle.ledger.specs.declared.stage.Half.{Half}
-use Rattle.ledger.specs.declared.stage.Half.TheVariants.{First, Second}
+use Rattle.ledger.specs.declared.stage.Half.TheVariants.{First}
 use Rattle.ledger.specs.declared.stage.Stage.{Stage}
-use Rattle.ledger.specs.declared.stage.Stage.TheVariants.{BeforeYear, BeforeTariff, InMonth}
-use Rattle.ledger.specs.declared.kept.Ledger.{Ledger}
+use Rattle.ledger.specs.declared.stage.Stage.TheVariants.{BeforeTariff}
+use Rattle.ledger.specs.declared.ledger.Ledger.{Ledger}
 
 -- the market's counts and meaning; the meaning of the agreement at each place, place 1 first; and what the house keeps in plain numbers
 pub record View : Type 0 where
@@ -68,27 +67,3 @@ with_till v till =
 abbrev pub with_reading : View → List Meaning → Month → Till → View
 with_reading v row month till =
     record { shape = v.shape; market = v.market; row = row; ledger = (with_till (with_month v month) till).ledger }
-
--- the month that a tariff opens
-abbrev pub first_month : Half → Stage
-first_month First = InMonth 1
-first_month Second = InMonth 7
-
--- where the house stands once a month is closed
-abbrev pub after_month : ℕ → Stage
-after_month n = cond (n == 6) (BeforeTariff Second) (cond (nat_le 12 n) BeforeYear (InMonth (n + 1)))
-
-abbrev pub before_year : Stage → Bool
-before_year BeforeYear = true
-before_year (BeforeTariff half) = false
-before_year (InMonth n) = false
-
-abbrev pub before_tariff : Stage → Bool
-before_tariff BeforeYear = false
-before_tariff (BeforeTariff half) = true
-before_tariff (InMonth n) = false
-
-abbrev pub in_month : Stage → Bool
-in_month BeforeYear = false
-in_month (BeforeTariff half) = false
-in_month (InMonth n) = true
