@@ -2,8 +2,8 @@
 #![tactic(auto)]
 
 mod draft;
-pub mod fault;
+pub mod expected_line;
 pub mod parse;
 
-pub use fault::{Expected, TextFault};
+pub use expected_line::{ExpectedLine, TextFault};
 pub use parse::parse_figures;

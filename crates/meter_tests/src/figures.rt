@@ -1,62 +1,68 @@
-//! The text of figures.
-use figures_text::{Expected, TextFault, parse_figures};
-use std::test::Fail;
+//! Making a reading from figures.
+use meter_files::FileRefusal;
+use metering::{
+    BLOCKS, Figures, FiguresRefusal, HeaderRefusal, Reading, ShortBuffer, make_reading,
+};
 
-/// The line that is wrong, and what is expected there.
-fn fault(text: &str) -> Option<(usize, Expected)> {
-    let TextFault { line, expected } = parse_figures(text.as_bytes()).err()?;
-    Some((line, expected))
-}
-
-#[test]
-fn comments_blank_lines_and_wide_gaps_say_nothing(rt: HostRuntime) -> Result<(), Fail> {
-    let text = "# a station\n\n  generator\t7 # its place\r\ndemand 100\n 0  5\n47 6";
-    let Ok(figures) = parse_figures(text.as_bytes()) else {
-        return Err(Fail::new("refused"));
+/// What making a reading of these figures answers, block 47 having this energy.
+fn made(kind: u32, number: u32, demand: u32, last: u32) -> Result<(), FiguresRefusal> {
+    let mut blocks = [0; BLOCKS];
+    blocks[47] = last;
+    let figures = Figures {
+        kind,
+        number,
+        demand,
+        blocks,
     };
-    assert_eq!(rt; figures.kind, 1);
-    assert_eq!(rt; figures.number, 7);
-    assert_eq!(rt; figures.demand, 100);
-    assert_eq!(rt; figures.blocks[0], 5);
-    assert_eq!(rt; figures.blocks[47], 6);
-    Ok(())
+    make_reading(&figures, &mut Reading::empty())
 }
 
 #[test]
-fn a_kind_may_be_a_number_and_a_large_figure_counts_as_the_largest(
-    rt: HostRuntime,
-) -> Result<(), Fail> {
-    let Ok(figures) = parse_figures(b"2 99999999999\ndemand 4294967296") else {
-        return Err(Fail::new("refused"));
-    };
-    assert_eq!(rt; figures.kind, 2);
-    assert_eq!(rt; figures.number, u32::MAX);
-    assert_eq!(rt; figures.demand, u32::MAX);
-    Ok(())
+fn figures_at_their_limits_make_a_reading(rt: HostRuntime) {
+    assert_eq!(rt; made(1, 1, 0, 0), Ok(()));
+    assert_eq!(rt; made(1, 32, 2_000_000, 20_000_000), Ok(()));
+    assert_eq!(rt; made(2, 8, 2_000_000, 1), Ok(()));
 }
 
 #[test]
-fn the_first_wrong_line_is_named_with_what_is_expected(rt: HostRuntime) {
-    assert_eq!(rt; fault(""), Some((1, Expected::Party)));
-    assert_eq!(rt; fault("generator\n"), Some((1, Expected::Party)));
-    assert_eq!(rt; fault("wind 1\n"), Some((1, Expected::Party)));
-    assert_eq!(rt; fault("generator 1\n\n"), Some((3, Expected::Demand)));
-    assert_eq!(rt; fault("generator 1\n2 20\n"), Some((2, Expected::Demand)));
+fn figures_past_their_limits_are_refused(rt: HostRuntime) {
+    assert_eq!(rt; made(0, 1, 0, 0), Err(FiguresRefusal::Header(2)));
+    assert_eq!(rt; made(3, 1, 0, 0), Err(FiguresRefusal::Header(2)));
+    assert_eq!(rt; made(1, 0, 0, 0), Err(FiguresRefusal::Header(3)));
+    assert_eq!(rt; made(1, 33, 0, 0), Err(FiguresRefusal::Header(3)));
+    assert_eq!(rt; made(2, 9, 0, 0), Err(FiguresRefusal::Header(3)));
+    assert_eq!(rt; made(1, 257, 0, 0), Err(FiguresRefusal::Header(3)));
+    assert_eq!(rt; made(1, 1, 2_000_001, 0), Err(FiguresRefusal::Header(4)));
+    assert_eq!(rt; made(1, 1, 0, 20_000_001), Err(FiguresRefusal::Block(47)));
+}
+
+#[test]
+fn of_several_wrong_figures_the_first_is_named(rt: HostRuntime) {
     assert_eq!(rt;
-        fault("generator 1\ndemand -1\n"),
-        Some((2, Expected::Demand))
+        made(9, 99, 9_000_000, 90_000_000),
+        Err(FiguresRefusal::Header(2))
     );
     assert_eq!(rt;
-        fault("generator 1\ndemand 1\n48 1\n"),
-        Some((3, Expected::Block))
+        made(2, 99, 9_000_000, 90_000_000),
+        Err(FiguresRefusal::Header(3))
     );
     assert_eq!(rt;
-        fault("generator 1\ndemand 1\n2 1\n2 1\n"),
-        Some((4, Expected::Block))
+        made(2, 8, 9_000_000, 90_000_000),
+        Err(FiguresRefusal::Header(4))
     );
-    assert_eq!(rt;
-        fault("generator 1\ndemand 1\n2 1 kWh\n"),
-        Some((3, Expected::Block))
-    );
-    assert_eq!(rt; fault("licensee 1\ndemand 1\n"), None);
+}
+
+#[test]
+fn a_refusal_has_its_number_and_detail(rt: HostRuntime) {
+    assert_eq!(rt; FileRefusal::Length(7).number(), 1);
+    assert_eq!(rt; FileRefusal::Header(3).number(), 2);
+    assert_eq!(rt; FileRefusal::BlockNumber(9).number(), 3);
+    assert_eq!(rt; FileRefusal::Energy(12).number(), 4);
+    assert_eq!(rt; HeaderRefusal { offset: 3 }.number(), 2);
+    assert_eq!(rt; FiguresRefusal::Header(3).number(), 2);
+    assert_eq!(rt; FiguresRefusal::Block(12).number(), 4);
+    assert_eq!(rt; ShortBuffer.number(), 5);
+    assert_eq!(rt; FileRefusal::Energy(12).detail(), 12);
+    assert_eq!(rt; HeaderRefusal { offset: 3 }.detail(), 3);
+    assert_eq!(rt; FiguresRefusal::Block(12).detail(), 12);
 }

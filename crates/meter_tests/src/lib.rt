@@ -2,10 +2,10 @@
 #![tactic(auto)]
 
 #[cfg(test)]
-mod checking;
-#[cfg(test)]
 mod figures;
 #[cfg(test)]
-mod making;
+mod limits;
 #[cfg(test)]
 mod reading;
+#[cfg(test)]
+mod text;

@@ -1,6 +1,6 @@
 //! Reading and writing a meter file.
-use meter_files::{FILE_LIMIT, read_file, write_file};
-use metering::{Kind, Reading, Refusal};
+use meter_files::{FILE_LIMIT, FileRefusal, read_file, write_file};
+use metering::{Kind, Reading, ShortBuffer};
 
 /// Generator 1 with 100 kW, and 20, 30 and 20 kWh in blocks 2, 12 and 38.
 const STATION: [u8; 23] = [
@@ -26,7 +26,7 @@ fn a_refused_file_leaves_the_reading(rt: HostRuntime) {
     assert_eq!(rt; read_file(&STATION, &mut reading), Ok(()));
     assert_eq!(rt;
         read_file(&STATION[0..22], &mut reading),
-        Err(Refusal::Length(22))
+        Err(FileRefusal::Length(22))
     );
     assert_eq!(rt; reading.demand, 100);
     assert_eq!(rt; reading.total(), 70);
@@ -47,6 +47,6 @@ fn a_buffer_that_is_one_byte_short_is_left_alone(rt: HostRuntime) {
     let mut reading = Reading::empty();
     assert_eq!(rt; read_file(&STATION, &mut reading), Ok(()));
     let mut buffer = [7u8; 22];
-    assert_eq!(rt; write_file(&reading, &mut buffer), Err(Refusal::Buffer));
+    assert_eq!(rt; write_file(&reading, &mut buffer), Err(ShortBuffer));
     assert_eq!(rt; buffer[0], 7);
 }

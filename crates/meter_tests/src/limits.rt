@@ -1,6 +1,5 @@
 //! Which bytes are a meter file.
-use meter_files::check_file;
-use metering::Refusal;
+use meter_files::{FileRefusal, check_file};
 
 #[test]
 fn eight_bytes_with_no_block_pass(rt: HostRuntime) {
@@ -27,21 +26,24 @@ fn full_file() -> [u8; 249] {
 fn all_blocks_take_248_bytes(rt: HostRuntime) {
     let bytes = full_file();
     assert_eq!(rt; check_file(&bytes[0..248]), Ok(()));
-    assert_eq!(rt; check_file(&bytes[0..247]), Err(Refusal::Length(247)));
-    assert_eq!(rt; check_file(&bytes), Err(Refusal::Length(249)));
+    assert_eq!(rt; check_file(&bytes[0..247]), Err(FileRefusal::Length(247)));
+    assert_eq!(rt; check_file(&bytes), Err(FileRefusal::Length(249)));
 }
 
 #[test]
 fn a_length_that_is_not_the_counts_is_refused(rt: HostRuntime) {
-    assert_eq!(rt; check_file(&[]), Err(Refusal::Length(0)));
-    assert_eq!(rt; check_file(&[0, 0, 1, 1, 0, 0, 0]), Err(Refusal::Length(7)));
+    assert_eq!(rt; check_file(&[]), Err(FileRefusal::Length(0)));
+    assert_eq!(rt;
+        check_file(&[0, 0, 1, 1, 0, 0, 0]),
+        Err(FileRefusal::Length(7))
+    );
     assert_eq!(rt;
         check_file(&[0, 0, 1, 1, 0, 0, 0, 0, 0]),
-        Err(Refusal::Length(9))
+        Err(FileRefusal::Length(9))
     );
     assert_eq!(rt;
         check_file(&[1, 0, 1, 1, 0, 0, 0, 0]),
-        Err(Refusal::Length(8))
+        Err(FileRefusal::Length(8))
     );
 }
 
@@ -58,7 +60,7 @@ fn a_header_field_out_of_range_is_named_by_its_offset(rt: HostRuntime) {
         ([0, 0, 1, 1, 129, 132, 30, 0], 4),
     ];
     for (bytes, offset) in cases.iter() {
-        assert_eq!(rt; check_file(bytes), Err(Refusal::Header(*offset)));
+        assert_eq!(rt; check_file(bytes), Err(FileRefusal::Header(*offset)));
     }
 }
 
@@ -77,15 +79,15 @@ fn a_block_number_rises_and_is_at_most_47(rt: HostRuntime) {
     );
     assert_eq!(rt;
         check_file(&[1, 0, 1, 1, 0, 0, 0, 0, 48, 1, 0, 0, 0]),
-        Err(Refusal::BlockNumber(8))
+        Err(FileRefusal::BlockNumber(8))
     );
     assert_eq!(rt;
         check_file(&[2, 0, 1, 1, 0, 0, 0, 0, 5, 5, 1, 0, 0, 0, 1, 0, 0, 0]),
-        Err(Refusal::BlockNumber(9))
+        Err(FileRefusal::BlockNumber(9))
     );
     assert_eq!(rt;
         check_file(&[2, 0, 1, 1, 0, 0, 0, 0, 5, 4, 1, 0, 0, 0, 1, 0, 0, 0]),
-        Err(Refusal::BlockNumber(9))
+        Err(FileRefusal::BlockNumber(9))
     );
 }
 
@@ -97,15 +99,15 @@ fn an_energy_is_1_to_20_000_000(rt: HostRuntime) {
     );
     assert_eq!(rt;
         check_file(&[1, 0, 1, 1, 0, 0, 0, 0, 0, 1, 45, 49, 1]),
-        Err(Refusal::Energy(9))
+        Err(FileRefusal::Energy(9))
     );
     assert_eq!(rt;
         check_file(&[1, 0, 1, 1, 0, 0, 0, 0, 0, 0, 0, 0, 0]),
-        Err(Refusal::Energy(9))
+        Err(FileRefusal::Energy(9))
     );
     assert_eq!(rt;
         check_file(&[2, 0, 1, 1, 0, 0, 0, 0, 0, 1, 1, 0, 0, 0, 0, 0, 0, 0]),
-        Err(Refusal::Energy(14))
+        Err(FileRefusal::Energy(14))
     );
 }
 
@@ -114,24 +116,24 @@ fn of_several_wrong_fields_the_first_check_names_its_own(rt: HostRuntime) {
     // the header comes before the length that follows from the count
     assert_eq!(rt;
         check_file(&[0, 0, 7, 1, 0, 0, 0, 0, 0]),
-        Err(Refusal::Header(2))
+        Err(FileRefusal::Header(2))
     );
     // the count, the kind, the party and the demand, in the order of their offsets
     assert_eq!(rt;
         check_file(&[49, 0, 7, 99, 255, 255, 255, 255]),
-        Err(Refusal::Header(0))
+        Err(FileRefusal::Header(0))
     );
     assert_eq!(rt;
         check_file(&[0, 0, 7, 99, 255, 255, 255, 255]),
-        Err(Refusal::Header(2))
+        Err(FileRefusal::Header(2))
     );
     assert_eq!(rt;
         check_file(&[0, 0, 2, 99, 255, 255, 255, 255]),
-        Err(Refusal::Header(3))
+        Err(FileRefusal::Header(3))
     );
     // every block number before any energy
     assert_eq!(rt;
         check_file(&[2, 0, 1, 1, 0, 0, 0, 0, 3, 3, 0, 0, 0, 0, 0, 0, 0, 0]),
-        Err(Refusal::BlockNumber(9))
+        Err(FileRefusal::BlockNumber(9))
     );
 }
