@@ -3,7 +3,7 @@ use Rattle.std.proofs.Common.{◌≡◌, ℕ, zero, suc, ◌+◌, ◌<◌, List,
 use denote.Param.Members.{Mut}
 use Rattle.std.specs.Fn.{Called}
 use Rattle.std.specs.Array.{MapsFrom, IsMapOf}
-use Rattle.agreements.specs.Rows.{map_from_places}
+use Rattle.agreements.specs.lemmas.Rows.{map_from_places}
 
 -- each call gives h of the element and leaves the closure as it was
 module _ {F : Type 0} (g : Mut F (ℕ × Unit {0}) ℕ) (h : ℕ → ℕ) (f : F) (call : (x y : ℕ) (q : F) → Called g f (x, tt) y q → (q ≡ f) × (y ≡ h x)) (xs ys : List ℕ) where

@@ -1,19 +1,24 @@
 -- The index layer: each due of the agreement below, times a factor in millionths.
-use Rattle.std.specs.Prelude.{ℕ, ◌+◌, ◌*◌, ◌/◌, min, Bool, cond, ◌&&◌, ◌||◌, map, Ok, Err, Result, nat_le, nat_lt}
+use Rattle.std.specs.Prelude.{ℕ, ◌+◌, ◌-◌, ◌^◌, min, Bool, cond, ◌&&◌, ◌||◌, map, Ok, Err, Result, nat_le, nat_lt}
+use Rattle.arith.specs.Scaling.{whole_ppm, millionths}
 use Rattle.agreements.specs.declared.dues.Dues.{Dues}
 use Rattle.agreements.specs.declared.fault.Cause.TheVariants.{Ceiling}
 use Rattle.agreements.specs.declared.fault.Fault.{Fault}
 use Rattle.agreements.specs.Dues.{capacity_due, block_sum}
-use Rattle.agreements.specs.Limits.{due_limit, whole_factor, factor_limit, layer_limit}
+use Rattle.agreements.specs.Limits.{due_limit, index_limit, layer_limit}
 use Rattle.agreements.specs.Meaning.{Answer, admitted, refused, Meaning}
 
--- a number outside 1 to 4,000,000 counts as 1,000,000
+-- a number outside 1 to 4,000,000 counts as 1,000,000, which leaves dues as they are
 abbrev pub counted : ℕ → ℕ
-counted f = cond (nat_le 1 f && nat_le f factor_limit) f whole_factor
+counted f = cond (nat_le 1 f && nat_le f index_limit) f whole_ppm
 
 -- a due under a factor, rounded down
 abbrev pub scaled : ℕ → ℕ → ℕ
-scaled f due = due * f / whole_factor
+scaled f due = millionths f due
+
+-- the greatest number of 64 bits stands for any more
+abbrev pub capped : ℕ → ℕ
+capped n = min n (2 ^ 64 - 1)
 
 abbrev pub scaled_dues : ℕ → Dues → Dues
 scaled_dues f d = record { capacity = scaled f d.capacity; blocks = map (scaled f) d.blocks }

@@ -6,8 +6,4 @@ pub mod Making
 pub mod TwoParts
 pub mod Quotas
 pub mod Indexes
-pub mod Indexing
-pub mod Bounds
-pub mod Energy
-pub mod Rows
-pub mod Portions
+pub mod lemmas

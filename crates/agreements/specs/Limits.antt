@@ -1,17 +1,11 @@
--- The limits of agreements. A grain is 1/10,000 of a cent.
-use Rattle.std.specs.Prelude.{ℕ, ◌^◌}
+-- The limits of agreements. Those of prices are the rate limits of `arith`.
+use Rattle.std.specs.Prelude.{ℕ, ◌*◌, ◌^◌}
+use Rattle.arith.specs.Scaling.{whole_ppm}
+use Rattle.metering.specs.Limits.{demand_limit}
 
--- most an energy price may be, grains per kWh
-abbrev pub energy_price_limit : ℕ
-energy_price_limit = 100000000
-
--- most a capacity price may be, grains per kW
-abbrev pub capacity_price_limit : ℕ
-capacity_price_limit = 50000000000
-
--- most that may be contracted, kW
+-- most that may be contracted, kW: as much as a meter may show
 abbrev pub contracted_limit : ℕ
-contracted_limit = 2000000
+contracted_limit = demand_limit
 
 -- most a quota may be, kWh
 abbrev pub quota_limit : ℕ
@@ -21,12 +15,9 @@ quota_limit = 10 ^ 15
 abbrev pub due_limit : ℕ
 due_limit = 10 ^ 17
 
--- a factor is in millionths, and at most four times
-abbrev pub whole_factor : ℕ
-whole_factor = 1000000
-
-abbrev pub factor_limit : ℕ
-factor_limit = 4000000
+-- the greatest factor of an index layer, in millionths: four times
+abbrev pub index_limit : ℕ
+index_limit = 4 * whole_ppm
 
 -- the highest number of a layer
 abbrev pub layer_limit : ℕ

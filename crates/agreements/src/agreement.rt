@@ -8,8 +8,7 @@ use crate::fault::Fault;
 use metering::Reading;
 
 /// An agreement prices readings. It may keep a standing, as what is left of a quota, which only booking moves.
-/// All that generic code knows of it is its meaning. It is a rule here that dues go into the caller's table, which a fault
-/// leaves, so they are no result.
+/// All that generic code knows of it is its meaning. Dues go into the caller's table, which a fault leaves as it was.
 pub trait Agreement {
     /// Its layer number, its standing and its terms.
     ghost meaning: { Self → Meaning };

@@ -3,6 +3,7 @@
 
 pub mod agreement;
 pub mod dues;
+pub mod factor;
 pub mod fault;
 pub mod index;
 pub mod limits;
@@ -12,8 +13,8 @@ pub mod two_part;
 
 pub use agreement::Agreement;
 pub use dues::Dues;
+pub use factor::Factor;
 pub use fault::{Cause, Fault, OverLimit};
-pub use index::terms::{indexed_dues, layer_above};
-pub use index::{Factor, Index};
+pub use index::{Index, indexed_dues, layer_above};
 pub use quota::Quota;
 pub use two_part::TwoPart;

@@ -5,7 +5,7 @@ use agreements::{Dues, Index, Quota, TwoPart};
 use anyhow::anyhow;
 use banks::{Bank, Beside, Listed, One, Unplaced};
 use metering::{BLOCKS, Kind, Reading, make_reading};
-use stations::{Figures, Station, Stations};
+use stations::{BaseFigures, Station, Stations};
 use strangers::{Retainer, Reversed};
 
 /// A generator's reading of 100 kW, with 20 kWh in block 2 and 30 kWh in block 12.
@@ -67,7 +67,7 @@ fn written_market(rt: &HostRuntime) -> anyhow::Result<()> {
 fn place_one(
     rt: &HostRuntime,
     bank: &mut Stations,
-    figures: Figures,
+    figures: BaseFigures,
     layers: usize,
 ) -> anyhow::Result<()> {
     let factors = vec![in rt.alloc(); 4_000_000; layers]?;
@@ -90,12 +90,12 @@ fn place_one(
 /// A market filed as figures: layers up to the ceiling, a figure over its limit, and a place too many.
 fn filed_market(rt: &HostRuntime) -> anyhow::Result<()> {
     let mut bank: Stations = Listed::new(rt.alloc());
-    let quota = Figures::Quota {
+    let quota = BaseFigures::Quota {
         quota: 25,
         first: 60_000,
         second: 40_000,
     };
-    let over = Figures::Quota {
+    let over = BaseFigures::Quota {
         quota: 1_000_000_000_000_001,
         first: 0,
         second: 0,

@@ -3,5 +3,4 @@ pub mod Refusals
 pub mod Rows
 pub mod Placing
 pub mod Sides
-pub mod Places
-pub mod Lists
+pub mod lemmas

@@ -39,7 +39,7 @@ abbrev pub moved_at : List Meaning → ℕ → Reading → List Meaning
 moved_at row k r = put_at row k r (at_place row k)
 
 -- booking at place k: the standing there moves, and every other is as it was
-pub record Books (before : List Meaning) (k : ℕ) (r : Reading) (after : List Meaning) : Type 0 where
+pub record Booked (before : List Meaning) (k : ℕ) (r : Reading) (after : List Meaning) : Type 0 where
   pub there : after ≡ moved_at before k r
   pub elsewhere : (j : ℕ) → (j ≢ k) → at_place after j ≡ at_place before j
 

@@ -3,15 +3,15 @@ ghost use Rattle.std.specs.Prelude.{◌≡◌, ℕ, ◌≤◌, List, length};
 ghost use Rattle.metering.specs.declared.reading.Reading.{Reading};
 ghost use Rattle.agreements.specs.Meaning.{Meaning};
 ghost use Rattle.banks.specs.Limits.{place_limit};
-ghost use Rattle.banks.specs.Rows.{at_place, outcome_at, written_at, Books, LawfulAt};
+ghost use Rattle.banks.specs.Rows.{at_place, outcome_at, written_at, Booked, LawfulAt};
 
 use crate::refusal::BankRefusal;
 use agreements::Dues;
 use metering::Reading;
 
-/// A bank holds agreements at places, which count from 1. It answers at a place as the agreement there would, into the
-/// caller's table, which a refusal leaves. It is a rule here that a refusal comes up through layers and banks by `?`, so each
-/// bank's two methods end alike; they differ in `ask` and `book`, and `&self` and `&mut self`.
+/// A bank holds agreements at places, which count from 1 to 32 at most. It answers at a place as the agreement there would,
+/// into the caller's table, which a refusal leaves as it was. A place that it does not have is refused (8), and so is a reading
+/// that the agreement there does not admit (10).
 pub trait Bank {
     /// What the agreement at each place means, place 1 first.
     ghost row: { Self → List Meaning };
@@ -29,7 +29,7 @@ pub trait Bank {
     fn book_at(&mut self, place: u8, reading: &Reading, table: &mut Dues) -> Result<(), BankRefusal>
         ensures answered { result ≡ outcome_at (at_place (row self.old) place) reading.now }
         ensures wrote { table.new ≡ written_at (at_place (row self.old) place) reading.now table.old }
-        ensures moves { Books (row self.old) place reading.now (row self.new) };
+        ensures moves { Booked (row self.old) place reading.now (row self.new) };
 
     ghost few: { (b : Self) → length (row b) ≤ place_limit };
 

@@ -1,15 +1,17 @@
-//! Two banks side by side are a bank, the left one's places first.
+//! A bank made of two.
 ghost use Rattle.std.specs.Prelude.{◌≡◌};
 ghost use Rattle.banks.specs.Rows.{side_by_side};
 ghost use Rattle.std.proofs.Common.{arith};
-ghost use Rattle.banks.specs.Sides.{IsSide, length_sides, lawful_sides};
+ghost use Rattle.banks.specs.Sides.{IsSide};
+ghost use Rattle.banks.specs.lemmas.Sides.{length_sides, lawful_sides};
 
 use crate::bank::Bank;
 use crate::refusal::BankRefusal;
 use agreements::Dues;
 use metering::{PLACES, Reading};
 
-/// Places past the 32nd are cut off.
+/// Two banks side by side. The places of the left one come first, and those of the right one count on from there;
+/// what would be past the 32nd place is not there.
 #[derive(Drop)]
 pub struct Beside<L, R> {
     left: L,

@@ -9,7 +9,6 @@ pub mod refusal;
 
 pub use bank::Bank;
 pub use beside::Beside;
-pub use listed::Listed;
-pub use listed::making::Unplaced;
+pub use listed::{Listed, Unplaced};
 pub use one::One;
 pub use refusal::BankRefusal;

@@ -1,4 +1,4 @@
-//! One agreement is a bank of one place.
+//! A bank of one place.
 ghost use Rattle.std.specs.Prelude.{◌≡◌, ◌≢◌, [], ◌∷◌, MatchResult};
 ghost use Rattle.std.proofs.Common.{rules};
 
@@ -7,6 +7,7 @@ use crate::refusal::BankRefusal;
 use agreements::{Agreement, Dues};
 use metering::Reading;
 
+/// A bank with the agreement at place 1.
 #[derive(Drop)]
 pub struct One<A> {
     agreement: A,

@@ -1,3 +1,3 @@
 pub mod Layers
 pub mod Figures
-pub mod Layering
+pub mod lemmas

@@ -1,15 +1,40 @@
 //! What may stand at the bottom of a station.
+ghost use Rattle.agreements.specs.Making.{Makes};
+ghost use Rattle.stations.specs.Figures.{figures_fit, figured};
 ghost use Rattle.stations.specs.Layers.{base_meaning};
-ghost use Rattle.stations.specs.Layering.{base_lawful};
+ghost use Rattle.stations.specs.lemmas.Layering.{base_lawful};
 
-use agreements::{Agreement, Dues, Fault, Quota, TwoPart};
+use crate::figures::BaseFigures;
+use agreements::{Agreement, Dues, Fault, OverLimit, Quota, TwoPart};
 use metering::Reading;
 
-/// Each method has an arm for each kind: one that gave out a `dyn` value for either would hide which contract it has.
+/// An agreement that stands on no other.
 #[derive(Clone, Copy)]
 pub enum Base {
     TwoPart(TwoPart),
     Quota(Quota),
+}
+
+/// The agreement that figures stand for. It refuses a figure over its limit (2).
+impl TryFrom<BaseFigures> for Base {
+    type Error = OverLimit;
+
+    ghost try_from_gives = { λ figures answer. Makes (figures_fit figures) base_meaning (figured figures) answer };
+
+    fn try_from(figures: BaseFigures) -> Result<Base, OverLimit> {
+        match figures {
+            BaseFigures::TwoPart {
+                contracted,
+                capacity,
+                energy,
+            } => Ok(Base::TwoPart(TwoPart::new(contracted, capacity, energy)?)),
+            BaseFigures::Quota {
+                quota,
+                first,
+                second,
+            } => Ok(Base::Quota(Quota::new(quota, first, second)?)),
+        }
+    }
 }
 
 impl Agreement for Base {
@@ -26,15 +51,17 @@ impl Agreement for Base {
 
     fn ask(&self, reading: &Reading, table: &mut Dues) -> Result<(), Fault> {
         match self {
-            Base::TwoPart(agreement) => agreement.ask(reading, table),
-            Base::Quota(agreement) => agreement.ask(reading, table),
+            Base::TwoPart(agreement) => agreement.ask(reading, table)?,
+            Base::Quota(agreement) => agreement.ask(reading, table)?,
         }
+        Ok(())
     }
 
     fn book(&mut self, reading: &Reading, table: &mut Dues) -> Result<(), Fault> {
         match self {
-            Base::TwoPart(agreement) => agreement.book(reading, table),
-            Base::Quota(agreement) => agreement.book(reading, table),
+            Base::TwoPart(agreement) => agreement.book(reading, table)?,
+            Base::Quota(agreement) => agreement.book(reading, table)?,
         }
+        Ok(())
     }
 }

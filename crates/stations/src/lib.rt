@@ -1,4 +1,4 @@
-//! Stations: agreements and a bank made while a program runs, from figures that an operator files.
+//! Stations: agreements and a bank that are made while a program runs, from figures that an operator files.
 #![tactic(auto)]
 
 pub mod base;
@@ -6,5 +6,5 @@ pub mod figures;
 pub mod station;
 
 pub use base::Base;
-pub use figures::Figures;
+pub use figures::BaseFigures;
 pub use station::{Station, Stations};

@@ -1,2 +1,3 @@
 pub mod Retainers
-pub mod Turning
+pub mod Fifths
+pub mod lemmas

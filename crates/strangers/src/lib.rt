@@ -1,8 +1,10 @@
-//! An agreement and a bank that nothing below was written for: they go in by the traits alone.
+//! An agreement, a bank and a methodology unlike the house's own, which go in by the traits alone.
 #![tactic(auto)]
 
+pub mod fifths;
 pub mod retainer;
 pub mod reversed;
 
+pub use fifths::{Fifths, head_of_fifth};
 pub use retainer::Retainer;
 pub use reversed::Reversed;

@@ -2,12 +2,13 @@
 ghost use Rattle.std.specs.Prelude.{◌≡◌, ◌+◌, ◌-◌, reverse, length};
 ghost use Rattle.std.proofs.Common.{arith};
 ghost use Rattle.std.proofs.lemmas.List.{length-reverse};
-ghost use Rattle.strangers.specs.Turning.{lawful_turned};
+ghost use Rattle.strangers.specs.lemmas.Turning.{lawful_turned};
 
 use agreements::Dues;
 use banks::{Bank, BankRefusal};
 use metering::Reading;
 
+/// A bank over another, whose last place is its first.
 #[derive(Drop)]
 pub struct Reversed<B> {
     bank: B,
@@ -22,7 +23,7 @@ impl<B> Reversed<B> {
 }
 
 impl<B: Bank> Reversed<B> {
-    /// The number that the bank itself gives a place; 0 past the last one, which the bank refuses, so that no test is made twice.
+    /// The number that the bank itself gives a place; 0, which the bank refuses, past the last one.
     fn turned(&self, place: u8) -> u8
         ensures { result ≡ length (B.Bank.row self.now.bank) + 1 - place }
     {

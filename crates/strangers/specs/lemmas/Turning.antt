@@ -5,8 +5,8 @@ use Rattle.std.proofs.lemmas.List.{length-reverse, length-set, get_or-reverse, g
 use Rattle.std.proofs.lemmas.Bool.{cases_eq, cases_lt}
 use Rattle.metering.specs.declared.reading.Reading.{Reading}
 use Rattle.agreements.specs.Meaning.{Meaning, moved}
-use Rattle.banks.specs.Rows.{nowhere, at_place, put_at, Books, LawfulAt}
-use Rattle.banks.specs.Places.{at_in, at_past, at_zero, by_place, books}
+use Rattle.banks.specs.Rows.{nowhere, at_place, put_at, Booked, LawfulAt}
+use Rattle.banks.specs.lemmas.Places.{at_in, at_past, at_zero, by_place, books}
 
 set_reverse : (ms : List Meaning) (i : ℕ) (m : Meaning) → i < length ms → reverse (slice_set ms i m) ≡ slice_set (reverse ms) (length ms - 1 - i) m
 set_reverse ms i m h =
@@ -44,7 +44,7 @@ module _ (ms : List Meaning) (k : ℕ) where
       (cases_eq k 0))
       (cases_lt (length ms) k)
 
-  pub books_turned : (r : Reading) (after : List Meaning) → Books ms (length ms + 1 - k) r after → Books (reverse ms) k r (reverse after)
+  pub books_turned : (r : Reading) (after : List Meaning) → Booked ms (length ms + 1 - k) r after → Booked (reverse ms) k r (reverse after)
   books_turned r after b =
       books _ k r _
       (ap reverse b.there

@@ -1,5 +1,5 @@
 use Rattle.std.proofs.Common.{refl, arith}
-use Rattle.banks.specs.Sides.{on_left, on_right, on_neither}
+use Rattle.banks.specs.lemmas.Sides.{on_left, on_right, on_neither}
 use Rattle.banks.proofs.beside.Beside.side.Goals as goal
 
 pub returns-then-place-left : goal.returns-then-place-left

@@ -1,5 +1,5 @@
 use Rattle.std.proofs.Common.{arith}
-use Rattle.banks.specs.Sides.{length_sides}
+use Rattle.banks.specs.lemmas.Sides.{length_sides}
 use Rattle.banks.proofs.beside.BesideBank.places.Goals as goal
 
 pub returns : goal.returns

@@ -1,5 +1,5 @@
 use Rattle.std.proofs.Common.{rules}
-use Rattle.strangers.specs.Turning.{turned, books_turned}
+use Rattle.strangers.specs.lemmas.Turning.{turned, books_turned}
 use Rattle.strangers.proofs.reversed.ReversedBank.book_at.Goals as goal
 
 pub returns : goal.returns
