@@ -1,4 +1,4 @@
--- The limits that the account keeps. A grain is 1/10,000 of a cent.
+-- The limits that the account keeps.
 use Rattle.std.specs.Prelude.{ℕ, ◌*◌, ◌^◌}
 use Rattle.metering.specs.Limits.{block_count, energy_limit, number_limit}
 use Rattle.metering.specs.declared.reading.Kind.TheVariants.{Generator, Licensee}
@@ -21,7 +21,3 @@ balance_limit = 4 * 10 ^ 18
 -- a carry is less than the quantity that it was left by: what all licensees take in a month
 abbrev pub carry_limit : ℕ
 carry_limit = licensee_limit * month_energy_limit
-
--- the grains of a cent
-abbrev pub cent : ℕ
-cent = 10000

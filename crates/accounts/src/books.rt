@@ -1,7 +1,8 @@
 //! What lasts from month to month.
 ghost use Rattle.std.specs.Prelude.{◌≡◌, ℕ, ◌<◌, length, slice_index};
 ghost use Rattle.methodology.specs.Limits.{head_limit};
-ghost use Rattle.accounts.specs.Limits.{licensee_limit, cent};
+ghost use Rattle.arith.specs.Money.{cent};
+ghost use Rattle.accounts.specs.Limits.{licensee_limit};
 
 use crate::account::Account;
 use crate::delivery::LICENSEES;

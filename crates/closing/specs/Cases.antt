@@ -7,8 +7,8 @@ use Rattle.settlement.specs.Closing.{Case as Seen, case_of, heads}
 use Rattle.closing.specs.declared.case.Case.{Case}
 
 -- by the meaning of its methodology
-abbrev pub shows : {M : Type 0} → Ghosts M → Case M → Seen
-shows methodology c =
+abbrev pub shows : {M : Type 0} {methodology : Ghosts M} → Case M methodology → Seen
+shows {methodology = methodology} c =
     case_of (rules_of methodology.shape (methodology.meaning c.methodology.now)) c.books.now c.rates.now c.revenues.now.yearly c.number c.month.now
 
 -- the answer of a test over all heads: it fails at none, or first at the head with this number

@@ -4,16 +4,16 @@ use Rattle.methodology.specs.declared.rules.Methodology.{Ghosts}
 use Rattle.methodology.specs.Meaning.{OneToTwo}
 use Rattle.settlement.specs.Closing.{Case, quantity, sent}
 use Rattle.closing.specs.declared.head.CaseHead.{CaseHead}
-use Rattle.closing.specs.declared.found.Findings.{Findings}
+use Rattle.closing.specs.declared.findings.Findings.{Findings}
 use Rattle.closing.specs.Cases.{shows}
 
 -- a figure of the head, or a claim
 abbrev pub at_head {ℓ} : {A : Type ℓ} {M : Type 0} {m : Ghosts M} → (Case → ℕ → A) → CaseHead M m → A
-at_head {m = m} f h = f (shows m h.case.now) h.k
+at_head f h = f (shows h.case.now) h.k
 
 -- the case that findings are of
 abbrev pub seen_in : {M : Type 0} {m : Ghosts M} → Findings M m → Case
-seen_in {m = m} f = shows m f.case.now
+seen_in f = shows f.case.now
 
 -- an interval delivers, and the energy sent in is from one to two times that
 abbrev pub Supplied : Case → ℕ → Type 0

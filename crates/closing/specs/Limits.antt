@@ -1,9 +1,10 @@
 -- How large the figures of a closing can be.
 use Rattle.std.specs.Prelude.{ℕ, ◌+◌, ◌*◌, ◌^◌}
-use Rattle.methodology.specs.Limits.{head_limit, demand_rate_limit}
+use Rattle.arith.specs.Money.{cent, demand_rate_limit}
+use Rattle.methodology.specs.Limits.{head_limit}
 use Rattle.agreements.specs.Limits.{due_limit}
 use Rattle.rates.specs.Limits.{yearly_limit}
-use Rattle.accounts.specs.Limits.{place_limit, month_energy_limit, carry_limit, cent}
+use Rattle.accounts.specs.Limits.{place_limit, month_energy_limit, carry_limit}
 
 -- a head's difference, grains: its quantity times a rate of 64 bits
 abbrev pub difference_limit : ℕ

@@ -1,18 +1,9 @@
-//! Closes a month: tests it head by head, and fills in the sheet and the books.
+//! Closes a month: tests it head by head, and makes its sheet and the books that follow.
 #![tactic(auto)]
 
 mod bills;
-mod case;
-mod figures;
-mod finding;
+pub mod case;
 mod findings;
-mod found;
 mod head;
-mod month;
-mod pools;
-mod quantities;
-mod refusals;
-mod results;
-mod spreading;
 
-pub use month::close;
+pub use case::Case;

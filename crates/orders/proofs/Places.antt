@@ -9,7 +9,8 @@ use Rattle.orders.specs.declared.order.Paid.{Paid}
 use Rattle.orders.specs.declared.till.Till.{Till}
 use Rattle.orders.specs.declared.till.CreditRefusal.{CreditRefusal}
 use Rattle.orders.specs.declared.till.CreditRefusal.TheVariants.{NoPlace, TooMuch}
-use Rattle.orders.specs.Limits.{cent, money_limit, place_limit}
+use Rattle.arith.specs.Money.{cent}
+use Rattle.orders.specs.Limits.{money_limit, place_limit}
 use Rattle.orders.specs.Tills.{no_money, money_at, stands, ordered_at, is_place, Puts, New, Credits, Releases}
 
 -- where there is no such place there is no money

@@ -3,10 +3,6 @@ use Rattle.std.specs.Prelude.{ℕ}
 use Rattle.metering.specs.Limits.{number_limit}
 use Rattle.metering.specs.declared.reading.Kind.TheVariants.{Generator}
 
--- grains to a cent
-abbrev pub cent : ℕ
-cent = 10000
-
 -- most that may stand at a place and be on its orders together, grains
 abbrev pub money_limit : ℕ
 money_limit = 4000000000000000000

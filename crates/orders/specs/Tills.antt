@@ -10,7 +10,8 @@ use Rattle.orders.specs.declared.till.DrawRefusal.{DrawRefusal}
 use Rattle.orders.specs.declared.till.DrawRefusal.TheVariants as draw
 use Rattle.orders.specs.declared.till.CreditRefusal.{CreditRefusal}
 use Rattle.orders.specs.declared.till.CreditRefusal.TheVariants as credit
-use Rattle.orders.specs.Limits.{cent, money_limit, place_limit}
+use Rattle.arith.specs.Money.{cent}
+use Rattle.orders.specs.Limits.{money_limit, place_limit}
 
 -- what is read past the end of the list of places
 abbrev pub no_money : Money

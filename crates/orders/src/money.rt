@@ -1,8 +1,12 @@
 //! The money of one place.
 ghost use Rattle.std.specs.Prelude.{◌≡◌, ◌+◌, ◌*◌, ◌≤◌, nat_le, is_some, IfSome};
-ghost use Rattle.orders.specs.Limits.{cent, money_limit};
+ghost use Rattle.arith.specs.Money.{cent};
+ghost use Rattle.orders.specs.Limits.{money_limit};
 
-use crate::limits::{CENT, MONEY_LIMIT};
+use arith::CENT;
+
+/// Most that may stand at a place and be on its orders together, grains: well within 64 bits.
+pub const MONEY_LIMIT: u64 = 4_000_000_000_000_000_000;
 
 /// What a place has: grains that stand there, and cents that are out on orders.
 #[derive(Clone, Copy)]

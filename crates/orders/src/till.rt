@@ -3,11 +3,10 @@ ghost use Rattle.std.specs.Prelude.{◌≡◌, ◌≤◌, false, length};
 ghost use Rattle.orders.specs.Limits.{place_limit};
 ghost use Rattle.orders.specs.Refusals.{draw_number, credit_number};
 
-use crate::limits::CENT;
 use crate::money::Money;
 use crate::order::{Paid, PayOrder, Returned};
 use crate::place::Place;
-use arith::split;
+use arith::{CENT, split};
 
 /// Most places: as many as stations can be told apart by.
 /// By `as`, since `from` cannot be called in a constant.

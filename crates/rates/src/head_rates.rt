@@ -1,6 +1,7 @@
 //! The rates of a head.
 ghost use Rattle.std.specs.Prelude.{◌≤◌};
-ghost use Rattle.methodology.specs.Limits.{demand_rate_limit, factor_limit};
+ghost use Rattle.arith.specs.Money.{demand_rate_limit};
+ghost use Rattle.methodology.specs.Limits.{factor_limit};
 
 /// What a head is billed, and what that comes from; grains per kW or per kWh, and ppm.
 #[derive(Clone, Copy)]

@@ -69,7 +69,7 @@ pub record Passed (c : Case) (readings deliveries : ℕ) : Type 0 where
   pub within : Never (Over c) (heads c)
   pub held : Never (Past c) (heads c)
 
--- the answer, by the sheet before and what is left in books and sheet; where it refuses they hold what they held
-abbrev pub Answer : Case → ℕ → ℕ → Sheet → Result (Unit {0}) CloseFault → Books → Sheet → Type 0
-Answer c readings deliveries s (Ok u) b s' = Passed c readings deliveries × Closed c s' b
-Answer c readings deliveries s (Err f) b s' = Refused c readings deliveries f × (b ≡ c.books) × (s' ≡ s)
+-- the answer, the books after the closing among it, by the sheet before and after; where it refuses the sheet is as it was
+abbrev pub Answer : Case → ℕ → ℕ → Sheet → Result Books CloseFault → Sheet → Type 0
+Answer c readings deliveries s (Ok b) s' = Passed c readings deliveries × Closed c s' b
+Answer c readings deliveries s (Err f) s' = Refused c readings deliveries f × (s' ≡ s)

@@ -1,10 +1,11 @@
 -- The account of one month: no grain is made or lost, fractions stay under a cent and carries under their heads' quantities.
-use Rattle.std.specs.Prelude.{◌≡◌, ℕ, ◌*◌, ◌<◌, ℤ, pos, ◌+ℤ◌, Some, None, Ok, Err, Option, Result, slice_index}
+use Rattle.std.specs.Prelude.{◌≡◌, ℕ, ◌*◌, ◌<◌, ℤ, pos, ◌+ℤ◌, Some, None, Ok, Err, Option, Result, slice_index, ⊤}
+use Rattle.arith.specs.Money.{cent}
 use Rattle.arith.specs.Months.{share as month-share}
 use Rattle.accounts.specs.declared.books.Books.{Books}
 use Rattle.accounts.specs.declared.sheet.Billed.{Billed}
 use Rattle.accounts.specs.declared.sheet.Sheet.{Sheet}
-use Rattle.accounts.specs.Limits.{cent, licensee_limit}
+use Rattle.accounts.specs.Limits.{licensee_limit}
 use Rattle.accounts.specs.Sums.{sum_to, sum_toℤ, Never}
 use Rattle.accounts.specs.Months.{income_of}
 use Rattle.accounts.specs.Books.{account_at, fraction_at}
@@ -50,9 +51,9 @@ pub record Lawful (c : Case) (s : Sheet) (b : Books) : Type 0 where
   pub small : Small c b
 
 -- an accepted closing keeps the law
-abbrev pub LawfulIfAccepted : Case → Result (Unit {0}) CloseFault → Sheet → Books → Type 0
-LawfulIfAccepted c (Ok u) s b = Lawful c s b
-LawfulIfAccepted c (Err f) s b = Unit {0}
+abbrev pub LawfulIfAccepted : Case → Result Books CloseFault → Sheet → Type 0
+LawfulIfAccepted c (Ok b) s = Lawful c s b
+LawfulIfAccepted c (Err _) s = ⊤
 
 -- whatever is closed by the rules, with a quantity under each head, keeps the law
 abbrev pub EveryClosing : Type 0
