@@ -6,4 +6,5 @@ pub mod Refusals
 pub mod Figures
 pub mod Makes
 pub mod Text
+pub mod Indexes
 pub mod lemmas

@@ -1,16 +1,18 @@
-//! A count with its noun, as `1 station` or `27 calls`.
+//! A count with its noun.
 ghost use Rattle.std.specs.Prelude.{Some};
 ghost use Rattle.words.specs.Messages.{counted_text};
 
 use std::fmt;
 
+/// How many there are of something, to be written for people.
 #[derive(Clone, Copy)]
 pub struct Counted {
     pub count: usize,
-    /// for one of them
+    /// The noun for one of them.
     pub noun: &'static str,
 }
 
+/// As `1 station` or `27 calls`.
 impl fmt::Display for Counted {
     ghost output = { λ c. Some (counted_text c.count c.noun.now) };
 

@@ -1,6 +1,6 @@
 //! Figures: words of decimal digits.
-ghost use Rattle.std.specs.Prelude.{◌≡◌, true, false, MatchOption};
-ghost use Rattle.words.specs.Figures.{is_figure, figure_of, number_of};
+ghost use Rattle.std.specs.Prelude.{◌≡◌, false, MatchOption};
+ghost use Rattle.words.specs.Figures.{is_figure, FigureText, figure_of, number_of};
 
 /// Whether a word is a figure.
 pub fn is_figure(word: &[u8]) -> bool
@@ -9,9 +9,9 @@ pub fn is_figure(word: &[u8]) -> bool
     !word.is_empty() && word.iter().all(u8::is_ascii_digit)
 }
 
-/// The digits of a figure.
+/// The digits of a figure, as a text.
 fn digits(word: &[u8]) -> Option<&str>
-    ensures { MatchOption result (is_figure word.now ≡ false) (λ text. (is_figure word.now ≡ true) × (text.now ≡ word.now)) }
+    ensures { MatchOption result (is_figure word.now ≡ false) (λ text. FigureText word.now text.now) }
 {
     if is_figure(word) {
         str::from_utf8(word).ok()

@@ -8,7 +8,7 @@ use crate::pieces::next_line;
 pub struct Lines<'a> {
     taken: usize,
     rest: &'a [u8],
-    /// so that each line has a number
+    // so that each line has a number
     ghost countable: { taken + length rest.now < 2 ^ 64 },
 }
 

@@ -1,7 +1,8 @@
 //! Lines and words in a text.
-ghost use Rattle.std.specs.Prelude.{◌≡◌, ◌∷◌, [], ◌<◌, ℕ, Bool, length, MatchOption};
+ghost use Rattle.std.specs.Prelude.{◌≡◌, ◌∷◌, [], ℕ, Bool, MatchOption};
 ghost use Rattle.std.specs.Str.{bytes_eq};
-ghost use Rattle.words.specs.Pieces.{blank, Tests, piece, after, first_line, behind_line, bare, first_word, behind_word};
+ghost use Rattle.words.specs.Pieces.{blank, Tests, piece, after, bare};
+ghost use Rattle.words.specs.Pieces.{first_line, behind_line, first_word, TakesWord};
 
 /// Cuts a text at the first byte that ends a piece: the piece, and what is left from that byte on. Either may be empty.
 fn cut<F: FnMut(&u8) -> bool>(text: &[u8], ends: F) -> (&[u8], &[u8])
@@ -20,7 +21,7 @@ fn is_blank(byte: &u8) -> bool
     matches!(*byte, b' ' | b'\t' | b'\r')
 }
 
-/// The first line of a text, and what is behind its line feed. No Option: a text always has a first line, which may be empty.
+/// The first line of a text, and what is behind its line feed. A text always has a first line, which may be empty.
 pub fn next_line(text: &[u8]) -> (&[u8], &[u8])
     ensures front { result.0.now ≡ first_line text.now }
     ensures back { result.1.now ≡ behind_line text.now }
@@ -41,7 +42,7 @@ pub fn without_comment(line: &[u8]) -> &[u8]
 
 /// The first word of a line, and what is behind it.
 pub fn next_word(line: &[u8]) -> Option<(&[u8], &[u8])>
-    ensures { MatchOption result (first_word line.now ≡ []) (λ p. (0 < length p.0.now) × (p.0.now ≡ first_word line.now) × (p.1.now ≡ behind_word line.now)) }
+    ensures { MatchOption result (first_word line.now ≡ []) (λ p. TakesWord line.now p.0.now p.1.now) }
 {
     let (_, words) = cut(line, |byte| !is_blank(byte));
     let (word, behind) = cut(words, is_blank);
@@ -52,7 +53,7 @@ pub fn next_word(line: &[u8]) -> Option<(&[u8], &[u8])>
     }
 }
 
-/// Whether a word is this one: `word == b"close".as_slice()` in its place would be no plainer at each of a dozen calls.
+/// Whether a word is this one.
 pub fn is_word(word: &[u8], name: &[u8]) -> bool
     ensures { result ≡ bytes_eq word.now name.now }
 {
