@@ -4,7 +4,7 @@ use Rattle.banks.specs.declared.listed.Unplaced.{Unplaced}
 use Rattle.banks.specs.declared.listed.Unplaced.TheVariants.{Full, NoMemory}
 use Rattle.banks.specs.declared.refusal.BankRefusal.{BankRefusal}
 use Rattle.banks.specs.declared.refusal.BankRefusal.TheVariants.{NoPlace}
-use Rattle.banks.specs.Limits.{place_limit}
+use Rattle.metering.specs.Limits.{place_limit}
 
 -- it takes the next place; where every place is taken, or for want of memory, the list stays and it comes back
 abbrev pub Places : {X : Type 0} → List X → X → Result (Unit {0}) (Unplaced X) → List X → Type 0

@@ -6,7 +6,7 @@ use Rattle.agreements.specs.declared.fault.Cause.TheVariants.{Contract}
 use Rattle.agreements.specs.Meaning.{Meaning, Answer, admitted, refused, answer, written, moved, Lawful}
 use Rattle.banks.specs.declared.refusal.BankRefusal.{BankRefusal}
 use Rattle.banks.specs.declared.refusal.BankRefusal.TheVariants.{NoPlace, Fault}
-use Rattle.banks.specs.Limits.{place_limit}
+use Rattle.metering.specs.Limits.{place_limit}
 
 -- never looked at: `get_or` wants something past the end
 abbrev pub nowhere : Meaning

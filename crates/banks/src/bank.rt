@@ -2,7 +2,7 @@
 ghost use Rattle.std.specs.Prelude.{◌≡◌, ℕ, ◌≤◌, List, length};
 ghost use Rattle.metering.specs.declared.reading.Reading.{Reading};
 ghost use Rattle.agreements.specs.Meaning.{Meaning};
-ghost use Rattle.banks.specs.Limits.{place_limit};
+ghost use Rattle.metering.specs.Limits.{place_limit};
 ghost use Rattle.banks.specs.Rows.{at_place, outcome_at, written_at, Booked, LawfulAt};
 
 use crate::refusal::BankRefusal;

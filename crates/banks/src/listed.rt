@@ -2,7 +2,7 @@
 ghost use Rattle.std.specs.Prelude.{◌≡◌, ◌≤◌, [], vec_len, map, length};
 ghost use Rattle.std.proofs.Common.{arith};
 ghost use Rattle.std.proofs.lemmas.List.{length-map};
-ghost use Rattle.banks.specs.Limits.{place_limit};
+ghost use Rattle.metering.specs.Limits.{place_limit};
 
 use crate::bank::Bank;
 use crate::refusal::BankRefusal;

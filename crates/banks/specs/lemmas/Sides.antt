@@ -6,7 +6,7 @@ use Rattle.std.proofs.lemmas.Bool.{cases_eq, cases_lt}
 use Rattle.std.proofs.Math.Seq.{take-set-lt}
 use Rattle.metering.specs.declared.reading.Reading.{Reading}
 use Rattle.agreements.specs.Meaning.{Meaning, moved}
-use Rattle.banks.specs.Limits.{place_limit}
+use Rattle.metering.specs.Limits.{place_limit}
 use Rattle.banks.specs.Rows.{nowhere, at_place, put_at, moved_at, side_by_side, LawfulAt}
 use Rattle.banks.specs.lemmas.Places.{at_in, at_past, at_zero, books}
 use Rattle.banks.specs.Sides.{OnLeft, OnRight, OnNeither}
