@@ -10,7 +10,6 @@ use Rattle.orders.specs.declared.order.PayOrder.{PayOrder}
 use Rattle.orders.specs.declared.order.Paid.{Paid}
 use Rattle.orders.specs.declared.order.Returned.{Returned}
 use Rattle.ledger.specs.declared.refusal.Refusal.{Refusal}
-use Rattle.ledger.specs.Verdicts.{Verdict}
 use Rattle.ledger.specs.Calls as calls
 use Rattle.house.specs.declared.house.House.{House}
 use Rattle.house.specs.Shown.{shows}
@@ -22,10 +21,7 @@ module _ {B M : Type 0} {bank : BankGhosts B} {market : MarketGhosts M} where
   abbrev pub Tariff : House B M bank market → Filing → Result (Unit {0}) Refusal → House B M bank market → Type 0
   Tariff h filing r h' = calls.Tariff (shows h) filing r (shows h')
 
-  abbrev pub meter_verdict : House B M bank market → Reading → Verdict
-  meter_verdict h reading = calls.meter_verdict (shows h) reading
-
-  abbrev pub Meter : House B M bank market → Reading → Result (Unit {0}) Refusal → House B M bank market → Type 0
+  abbrev pub Meter : House B M bank market → Reading → Result ℕ Refusal → House B M bank market → Type 0
   Meter h reading r h' = calls.Meter (shows h) reading r (shows h')
 
   abbrev pub Deliver : House B M bank market → Reading → Result (Unit {0}) Refusal → House B M bank market → Type 0

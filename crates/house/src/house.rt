@@ -1,12 +1,10 @@
 //! A house, and the eight calls that may be made of it.
-ghost use Rattle.std.specs.Prelude.{◌≡◌, ◌≤◌, length};
-ghost use Rattle.banks.specs.Limits.{place_limit};
-ghost use Rattle.ledger.specs.Views.{first_month, after_month};
+ghost use Rattle.std.specs.Prelude.{◌≤◌, length};
+ghost use Rattle.metering.specs.Limits.{place_limit};
 ghost use Rattle.house.specs.Placed.{Placed};
 
 use accounts::{Books, Month, Sheet};
 use agreements::Dues;
-use arith::months::MONTHS;
 use banks::Bank;
 use closing::close;
 use ledger::{Half, Ledger, Refusal, Stage};
@@ -27,41 +25,12 @@ pub struct House<B: Bank, M: Methodology> {
     ghost placed: { Placed M.Methodology.shape (M.Methodology.meaning methodology) },
 }
 
-/// The last month of the first half-year.
-const HALF_YEAR: u8 = 6;
-
-/// Where a house stands once a month is closed.
-fn after_month(number: u8) -> Stage
-    ensures { result ≡ after_month number }
-{
-    if number == HALF_YEAR {
-        Stage::BeforeTariff(Half::Second)
-    } else if u64::from(number) >= MONTHS {
-        Stage::BeforeYear
-    } else {
-        Stage::InMonth(number + 1)
-    }
-}
-
-/// The month that a tariff opens.
-fn first_month(half: Half) -> Stage
-    ensures { result ≡ first_month half }
-{
-    match half {
-        Half::First => Stage::InMonth(1),
-        Half::Second => Stage::InMonth(7),
-    }
-}
-
 impl<B: Bank, M: Methodology> House<B, M> {
-    ghost use Rattle.std.specs.Prelude.{IfOk};
-    ghost use Rattle.banks.specs.Rows.{at_place};
+    ghost use Rattle.std.specs.Prelude.{◌≡◌};
     ghost use Rattle.ledger.specs.Calls.{NewHouse};
     ghost use Rattle.ledger.specs.Law.{EveryRun};
-    ghost use Rattle.ledger.specs.Terms.{dues_at};
-    ghost use Rattle.ledger.specs.Verdicts.{said};
     ghost use Rattle.house.specs.Shown.{shows, Over};
-    ghost use Rattle.house.specs.Calls.{Year, Tariff, meter_verdict, Meter, Deliver, Close, Draw, Release, Hold};
+    ghost use Rattle.house.specs.Calls.{Year, Tariff, Meter, Deliver, Close, Draw, Release, Hold};
 
     /// A house over a bank and a methodology. Its serial number should be one that no other house bears.
     /// It stands before a year, with amounts 0, and the bank's standings are as they were.
@@ -116,14 +85,14 @@ impl<B: Bank, M: Methodology> House<B, M> {
         let rates = publish(M::shape(), filing, &earlier)?;
         self.ledger.rates = rates;
         self.ledger.books.begin_period();
-        self.ledger.stage = first_month(half);
+        self.ledger.stage = half.first_month();
         Ok(())
     }
 
-    /// What the reading's station is due, if meter accepts it.
-    fn dues(&self, reading: &Reading) -> Result<Dues, Refusal>
-        ensures said { said result ≡ meter_verdict self.now reading.now }
-        ensures due { IfOk result (λ d. d ≡ dues_at (at_place (B.Bank.row self.now.bank) reading.now.number) reading.now) }
+    /// Takes a station's reading: asks the bank, books it, and adds the dues to the place's standing money. Answers the dues,
+    /// in grains.
+    pub fn meter(&mut self, reading: &Reading) -> Result<u64, Refusal>
+        ensures { Meter self.old reading.now result self.new }
     {
         if reading.kind != Kind::Generator {
             return Err(Refusal::WrongKind);
@@ -140,31 +109,14 @@ impl<B: Bank, M: Methodology> House<B, M> {
         }
         let mut dues = Dues::empty();
         self.bank.ask_at(place, reading, &mut dues)?;
-        if !self
-            .ledger
-            .till
-            .has_room(place, dues.capacity_due() + dues.block_sum())
-        {
-            return Err(Refusal::TooMuch);
-        }
-        Ok(dues)
-    }
-
-    /// Takes a station's reading: asks the bank, books it, and adds the dues to the place's standing money.
-    pub fn meter(&mut self, reading: &Reading) -> Result<(), Refusal>
-        ensures { Meter self.old reading.now result self.new }
-    {
-        let mut dues = self.dues(reading)?;
-        self.bank.book_at(reading.number, reading, &mut dues)?;
+        let worth = dues.capacity_due() + dues.block_sum();
+        self.ledger.till.credit(place, worth)?;
+        self.bank.book_at(place, reading, &mut dues).unwrap();
         self.ledger
             .month
             .add_reading(&self.methodology, reading, &dues)
             .unwrap();
-        self.ledger
-            .till
-            .credit(reading.number, dues.capacity_due() + dues.block_sum())
-            .unwrap();
-        Ok(())
+        Ok(worth as u64)
     }
 
     /// Takes a licensee's reading.
@@ -212,7 +164,7 @@ impl<B: Bank, M: Methodology> House<B, M> {
             sheet,
         )?;
         self.ledger.month = Month::open();
-        self.ledger.stage = after_month(number);
+        self.ledger.stage = Stage::after_month(number);
         Ok(())
     }
 
