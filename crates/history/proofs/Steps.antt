@@ -17,8 +17,7 @@ use Rattle.ledger.specs.declared.refusal.Refusal.{Refusal}
 use Rattle.ledger.specs.Views.{View, till_of}
 use Rattle.ledger.specs.Terms.{worth, dues_at}
 use Rattle.ledger.specs.Calls as calls
-use Rattle.ledger.specs.Runs.{Event, filed, priced, metered, delivered, closed, drew, released, held, Run, Presents, own, other, with_drawn, with_presented}
-use Rattle.ledger.specs.Runs as runs
+use Rattle.ledger.specs.Runs.{Event, year, tariff, meter, deliver, close, draw, release, hold, Run, new, step, own, other, with_drawn}
 use Rattle.ledger.specs.Accepted.{in_hand}
 use Rattle.ledger.proofs.Hand.{Bear}
 use Rattle.ledger.proofs.Places.{held_after}
@@ -35,9 +34,9 @@ use Rattle.history.specs.declared.answer.Answer.TheVariants.{Metered}
 use Rattle.history.specs.declared.order_list.Orders.{Orders}
 use Rattle.history.specs.Slots.{slot, in_slots, slots_of}
 use Rattle.history.specs.Presenting.{Spends, After, Missing, Presentation}
-use Rattle.history.specs.Histories.{told, answer_to, named, hand_drawn, Makes, History, begun, made, lacking, Performed, Next}
+use Rattle.history.specs.Histories.{told, meter_told, answer_to, named, hand_drawn, Makes, History, begun, made, lacking, Performed, Next}
 use Rattle.history.specs.Bearing.{any_bears, all_bear, Foreign}
-use Rattle.history.specs.Steps.{meter_told, Meters, close_told, Closes, draw_told, Draws, Stepped}
+use Rattle.history.specs.Steps.{close_told, Closes, draw_told, Draws, Stepped}
 use Rattle.history.proofs.Slots.{none_not_some, some_same, numbered, without_long, among_slots, slots_more}
 
 -- orders of other houses
@@ -66,30 +65,31 @@ module _ (shape : Shape) (market : Market) (row : List Meaning) (serial : ℕ) (
       }
 
   pub next_year : (given : Row) (r : Result (Unit {0}) Refusal) (a : Answer) (hand : List (Option PayOrder)) (v w : View) → a ≡ told r → calls.Year v given r w → Next shape market row serial others (Year given) a hand v hand w
-  next_year given r a hand v w is m cs answers y = more (Year given) (filed given r) a cs answers y (r, refl, refl) (runs.year y.run m) is
+  next_year given r a hand v w is m cs answers y = more (Year given) (year given r) a cs answers y (r, refl, refl) (step (year given r) _ y.run m refl) is
 
   pub next_tariff : (given : Filing) (r : Result (Unit {0}) Refusal) (a : Answer) (hand : List (Option PayOrder)) (v w : View) → a ≡ told r → calls.Tariff v given r w → Next shape market row serial others (Tariff given) a hand v hand w
-  next_tariff given r a hand v w is m cs answers y = more (Tariff given) (priced given r) a cs answers y (r, refl, refl) (runs.tariff y.run m) is
+  next_tariff given r a hand v w is m cs answers y = more (Tariff given) (tariff given r) a cs answers y (r, refl, refl) (step (tariff given r) _ y.run m refl) is
 
   pub next_deliver : (given : Reading) (r : Result (Unit {0}) Refusal) (a : Answer) (hand : List (Option PayOrder)) (v w : View) → a ≡ told r → calls.Deliver v given r w → Next shape market row serial others (Deliver given) a hand v hand w
-  next_deliver given r a hand v w is m cs answers y = more (Deliver given) (delivered given r) a cs answers y (r, refl, refl) (runs.deliver y.run m) is
+  next_deliver given r a hand v w is m cs answers y = more (Deliver given) (deliver given r) a cs answers y (r, refl, refl) (step (deliver given r) _ y.run m refl) is
 
   -- the dues told are what the terms give, from the standing that the bank came with
-  meter_answer : (given : Reading) (r : Result (Unit {0}) Refusal) {es : List Event} {hand : List PayOrder} {v : View} → Run shape market row serial es hand v → meter_told v given r ≡ answer_to row es (metered given r)
-  meter_answer given (Ok u) run = ap (λ place. Metered (worth (dues_at place given))) ((held_after shape market row serial run).standing given.number)
-  meter_answer given (Err why) run = refl
+  meter_answer : (given : Reading) (r : Result ℕ Refusal) (w : View) {es : List Event} {hand : List PayOrder} {v : View} → Run shape market row serial es hand v → calls.Meter v given r w → meter_told r ≡ answer_to row es (meter given r)
+  meter_answer given (Ok dues) w run m =
+      ap Metered m.1.due ∙ ap (λ place. Metered (worth (dues_at place given))) ((held_after shape market row serial run).standing given.number)
+  meter_answer given (Err why) w run m = refl
 
-  pub next_meter : (given : Reading) (a : Answer) (hand : List (Option PayOrder)) (v w : View) → Meters v given a w → Next shape market row serial others (Meter given) a hand v hand w
-  next_meter given a hand v w (r, is, m) cs answers y = more (Meter given) (metered given r) a cs answers y (r, refl, refl) (runs.meter y.run m) (is ∙ meter_answer given r y.run)
+  pub next_meter : (given : Reading) (r : Result ℕ Refusal) (a : Answer) (hand : List (Option PayOrder)) (v w : View) → a ≡ meter_told r → calls.Meter v given r w → Next shape market row serial others (Meter given) a hand v hand w
+  next_meter given r a hand v w is m cs answers y = more (Meter given) (meter given r) a cs answers y (r, refl, refl) (step (meter given r) _ y.run m refl) (is ∙ meter_answer given r w y.run m)
 
-  close_answer : (stated : Stated) (r : Result (Unit {0}) Refusal) (s s' : Sheet) (es : List Event) → close_told r s' ≡ answer_to row es (closed stated.readings stated.deliveries s r s')
+  close_answer : (stated : Stated) (r : Result (Unit {0}) Refusal) (s s' : Sheet) (es : List Event) → close_told r s' ≡ answer_to row es (close stated.readings stated.deliveries s r s')
   close_answer stated (Ok u) s s' es = refl
   close_answer stated (Err why) s s' es = refl
 
   pub next_close : (stated : Stated) (a : Answer) (hand : List (Option PayOrder)) (v w : View) → Closes v stated a w → Next shape market row serial others (Close stated) a hand v hand w
-  next_close stated a hand v w (r, s, s', is, m) cs answers y = more (Close stated) (closed stated.readings stated.deliveries s r s') a cs answers y (r, s, s', refl, refl) (runs.close y.run m) (is ∙ close_answer stated r s s' y.events)
+  next_close stated a hand v w (r, s, s', is, m) cs answers y = more (Close stated) (close stated.readings stated.deliveries s r s') a cs answers y (r, s, s', refl, refl) (step (close stated.readings stated.deliveries s r s') _ y.run m refl) (is ∙ close_answer stated r s s' y.events)
 
-  draw_answer : (place : ℕ) (r : Result PayOrder Refusal) (es : List Event) → draw_told r ≡ answer_to row es (drew place r)
+  draw_answer : (place : ℕ) (r : Result PayOrder Refusal) (es : List Event) → draw_told r ≡ answer_to row es (draw place r)
   draw_answer place (Ok o) es = refl
   draw_answer place (Err why) es = refl
 
@@ -99,26 +99,26 @@ module _ (shape : Shape) (market : Market) (row : List Meaning) (serial : ℕ) (
 
   pub next_draw : (place : ℕ) (a : Answer) (hand hand' : List (Option PayOrder)) (v w : View) → Draws v place hand a hand' w → Next shape market row serial others (Draw place) a hand v hand' w
   next_draw place a hand hand' v w (r, is, left, m) cs answers y =
-      more (Draw place) (drew place r) a cs answers y (r, refl, left)
-      (subst (λ os. Run shape market row serial (drew place r ∷ y.events) os w) (drawn_slots r hand ∙ ap in_slots (sym left)) (runs.draw y.run m))
+      more (Draw place) (draw place r) a cs answers y (r, refl, left)
+      (subst (λ os. Run shape market row serial (draw place r ∷ y.events) os w) (drawn_slots r hand ∙ ap in_slots (sym left)) (step (draw place r) _ y.run m refl))
       (is ∙ draw_answer place r y.events)
 
   -- an order in hand is presented
   next_own_release : (number : ℕ) (o : PayOrder) (r : Result Answer Returned) (a : Answer) (hand hand' : List (Option PayOrder)) (v w : View) → slot hand number ≡ Some o → Spends Release v o r w → After hand number r a hand' → Next shape market row serial others (Present Release (Drawn number)) a hand v hand' w
   next_own_release number o (Ok told') a hand hand' v w there (paid, is, m) (same, left) cs answers y =
-      more (Present Release (Drawn number)) (released o (Ok paid)) a cs answers y (o, Ok paid, there, refl, left)
-      (subst (λ slots. Run shape market row serial (released o (Ok paid) ∷ y.events) (in_slots slots) w) (sym left) (runs.release y.run (own (among_slots hand number o there)) m)) (same ∙ is)
+      more (Present Release (Drawn number)) (release o (Ok paid)) a cs answers y (o, Ok paid, there, refl, left)
+      (subst (λ slots. Run shape market row serial (release o (Ok paid) ∷ y.events) (in_slots slots) w) (sym left) (step (release o _) _ y.run m (own (among_slots hand number o there)))) (same ∙ is)
   next_own_release number o (Err back) a hand hand' v w there m (same, left) cs answers y =
-      more (Present Release (Drawn number)) (released o (Err back)) a cs answers y (o, Err back, there, refl, left)
-      (subst (λ slots. Run shape market row serial (released o (Err back) ∷ y.events) (in_slots slots) w) (sym left) (runs.release y.run (own (among_slots hand number o there)) m)) same
+      more (Present Release (Drawn number)) (release o (Err back)) a cs answers y (o, Err back, there, refl, left)
+      (subst (λ slots. Run shape market row serial (release o (Err back) ∷ y.events) (in_slots slots) w) (sym left) (step (release o _) _ y.run m (own (among_slots hand number o there)))) same
 
   next_own_hold : (number : ℕ) (o : PayOrder) (r : Result Answer Returned) (a : Answer) (hand hand' : List (Option PayOrder)) (v w : View) → slot hand number ≡ Some o → Spends Hold v o r w → After hand number r a hand' → Next shape market row serial others (Present Hold (Drawn number)) a hand v hand' w
   next_own_hold number o (Ok told') a hand hand' v w there (is, m) (same, left) cs answers y =
-      more (Present Hold (Drawn number)) (held o (Ok tt)) a cs answers y (o, Ok tt, there, refl, left)
-      (subst (λ slots. Run shape market row serial (held o (Ok tt) ∷ y.events) (in_slots slots) w) (sym left) (runs.hold y.run (own (among_slots hand number o there)) m)) (same ∙ is)
+      more (Present Hold (Drawn number)) (hold o (Ok tt)) a cs answers y (o, Ok tt, there, refl, left)
+      (subst (λ slots. Run shape market row serial (hold o (Ok tt) ∷ y.events) (in_slots slots) w) (sym left) (step (hold o _) _ y.run m (own (among_slots hand number o there)))) (same ∙ is)
   next_own_hold number o (Err back) a hand hand' v w there m (same, left) cs answers y =
-      more (Present Hold (Drawn number)) (held o (Err back)) a cs answers y (o, Err back, there, refl, left)
-      (subst (λ slots. Run shape market row serial (held o (Err back) ∷ y.events) (in_slots slots) w) (sym left) (runs.hold y.run (own (among_slots hand number o there)) m)) same
+      more (Present Hold (Drawn number)) (hold o (Err back)) a cs answers y (o, Err back, there, refl, left)
+      (subst (λ slots. Run shape market row serial (hold o (Err back) ∷ y.events) (in_slots slots) w) (sym left) (step (hold o _) _ y.run m (own (among_slots hand number o there)))) same
 
   -- no order was there
   next_missing : (how : Spending) (which : Named) (number : ℕ) (slots slots' : List (Option PayOrder)) (a : Answer) (hand hand' : List (Option PayOrder)) (v w : View) → named hand others which ≡ slot slots number → hand' ≡ hand → Missing number slots v a slots' w → Next shape market row serial others (Present how which) a hand v hand' w
@@ -143,15 +143,15 @@ module _ (shape : Shape) (market : Market) (row : List Meaning) (serial : ℕ) (
   next_other_release number o (Ok told') a hand others' v w foreign there (paid, is, m) after cs answers y =
       absurd (not_mine v others number o foreign there m.released.0)
   next_other_release number o (Err back) a hand others' v w foreign there m (same, left) cs answers y =
-      more (Present Release (Other number)) (released o (Err back)) a cs answers y (o, Err back, there, refl, refl)
-      (runs.release y.run (other (λ e. foreign_slot (till_of v).serial others number o foreign there (e ∙ sym (held_after shape market row serial y.run).serial_is))) m) same
+      more (Present Release (Other number)) (release o (Err back)) a cs answers y (o, Err back, there, refl, refl)
+      (step (release o _) _ y.run m (other (λ e. foreign_slot (till_of v).serial others number o foreign there (e ∙ sym (held_after shape market row serial y.run).serial_is)))) same
 
   next_other_hold : (number : ℕ) (o : PayOrder) (r : Result Answer Returned) (a : Answer) (hand others' : List (Option PayOrder)) (v w : View) → Foreign (till_of v).serial others → slot others number ≡ Some o → Spends Hold v o r w → After others number r a others' → Next shape market row serial others (Present Hold (Other number)) a hand v hand w
   next_other_hold number o (Ok told') a hand others' v w foreign there (is, m) after cs answers y =
       absurd (not_mine v others number o foreign there m.held.0)
   next_other_hold number o (Err back) a hand others' v w foreign there m (same, left) cs answers y =
-      more (Present Hold (Other number)) (held o (Err back)) a cs answers y (o, Err back, there, refl, refl)
-      (runs.hold y.run (other (λ e. foreign_slot (till_of v).serial others number o foreign there (e ∙ sym (held_after shape market row serial y.run).serial_is))) m) same
+      more (Present Hold (Other number)) (hold o (Err back)) a cs answers y (o, Err back, there, refl, refl)
+      (step (hold o _) _ y.run m (other (λ e. foreign_slot (till_of v).serial others number o foreign there (e ∙ sym (held_after shape market row serial y.run).serial_is)))) same
 
   pub next_other : (how : Spending) (number : ℕ) (a : Answer) (hand others' : List (Option PayOrder)) (v w : View) → Foreign (till_of v).serial others → Presentation how number others v a others' w → Next shape market row serial others (Present how (Other number)) a hand v hand w
   next_other how number a hand others' v w foreign (inl m) = next_missing how (Other number) number others others' a hand hand v w refl refl m
@@ -161,7 +161,7 @@ module _ (shape : Shape) (market : Market) (row : List Meaning) (serial : ℕ) (
   -- a house newly made, before any call
   pub performed_none : (v : View) (answers : List Answer) (hand : List (Option PayOrder)) → v.shape ≡ shape → v.market ≡ market → v.row ≡ row → calls.NewHouse serial v → answers ≡ [] → hand ≡ [] → Performed shape market row serial others [] answers hand v
   performed_none v answers hand Shape-is market_is row_is n unanswered none =
-      let run : Run shape market row serial [] [] v = runs.new Shape-is market_is row_is n in
+      let run : Run shape market row serial [] [] v = new Shape-is market_is row_is n in
       subst (λ x. Performed shape market row serial others [] x hand v) (sym unanswered)
       (subst (λ h. Performed shape market row serial others [] [] h v) (sym none)
       record { events = []; history = begun run; run = run; law = every_run every_closing shape market row serial [] [] v run })

@@ -9,7 +9,7 @@ use Rattle.orders.specs.declared.order.Paid.{Paid}
 use Rattle.orders.specs.declared.order.Returned.{Returned}
 use Rattle.ledger.specs.declared.refusal.Refusal.{Refusal}
 use Rattle.ledger.specs.Views.{View}
-use Rattle.ledger.specs.Runs.{Event, filed, priced, metered, delivered, closed, drew, released, held, Run}
+use Rattle.ledger.specs.Runs.{Event, year, tariff, meter, deliver, close, draw, release, hold, Run}
 use Rattle.ledger.specs.Accepted.{due_after}
 use Rattle.ledger.specs.Law.{Law}
 use Rattle.history.specs.declared.call.Call.{Call}
@@ -26,21 +26,26 @@ abbrev pub told : Result (Unit {0}) Refusal → Answer
 told (Ok _) = Accepted
 told (Err why) = Refused why
 
+-- and of a reading: its dues
+abbrev pub meter_told : Result ℕ Refusal → Answer
+meter_told (Ok dues) = Metered dues
+meter_told (Err why) = Refused why
+
 -- what is answered to a call, after the calls es to a house over a bank with these meanings
 abbrev pub answer_to : List Meaning → List Event → Event → Answer
-answer_to row es (filed given r) = told r
-answer_to row es (priced given r) = told r
-answer_to row es (metered given (Ok _)) = Metered (due_after row es given)
-answer_to row es (metered given (Err why)) = Refused why
-answer_to row es (delivered given r) = told r
-answer_to row es (closed readings deliveries s (Ok _) s') = Closed s'
-answer_to row es (closed readings deliveries s (Err why) s') = Refused why
-answer_to row es (drew place (Ok o)) = DrawnOut o.place o.cents
-answer_to row es (drew place (Err why)) = Refused why
-answer_to row es (released o (Ok paid)) = PaidOut paid.place paid.cents
-answer_to row es (released o (Err back)) = CameBack
-answer_to row es (held o (Ok _)) = Accepted
-answer_to row es (held o (Err back)) = CameBack
+answer_to row es (year given r) = told r
+answer_to row es (tariff given r) = told r
+answer_to row es (meter given (Ok _)) = Metered (due_after row es given)
+answer_to row es (meter given (Err why)) = Refused why
+answer_to row es (deliver given r) = told r
+answer_to row es (close readings deliveries s (Ok _) s') = Closed s'
+answer_to row es (close readings deliveries s (Err why) s') = Refused why
+answer_to row es (draw place (Ok o)) = DrawnOut o.place o.cents
+answer_to row es (draw place (Err why)) = Refused why
+answer_to row es (release o (Ok paid)) = PaidOut paid.place paid.cents
+answer_to row es (release o (Err back)) = CameBack
+answer_to row es (hold o (Ok _)) = Accepted
+answer_to row es (hold o (Err back)) = CameBack
 
 -- the order that is named: one that was drawn and is still in hand, or one of another house
 abbrev pub named : List (Option PayOrder) → List (Option PayOrder) → Named → Option PayOrder
@@ -60,14 +65,14 @@ hand_spent (Err _) which hand = hand
 
 -- the call was made, with the arguments that it names
 abbrev pub Makes : Call → List (Option PayOrder) → List (Option PayOrder) → Event → List (Option PayOrder) → Type 0
-Makes (Year given) hand others e hand' = (r : Result (Unit {0}) Refusal) × (e ≡ filed given r) × (hand' ≡ hand)
-Makes (Tariff given) hand others e hand' = (r : Result (Unit {0}) Refusal) × (e ≡ priced given r) × (hand' ≡ hand)
-Makes (Meter given) hand others e hand' = (r : Result (Unit {0}) Refusal) × (e ≡ metered given r) × (hand' ≡ hand)
-Makes (Deliver given) hand others e hand' = (r : Result (Unit {0}) Refusal) × (e ≡ delivered given r) × (hand' ≡ hand)
-Makes (Close stated) hand others e hand' = (r : Result (Unit {0}) Refusal) × (s : Sheet) × (s' : Sheet) × (e ≡ closed stated.readings stated.deliveries s r s') × (hand' ≡ hand)
-Makes (Draw place) hand others e hand' = (r : Result PayOrder Refusal) × (e ≡ drew place r) × (hand' ≡ hand_drawn r hand)
-Makes (Present Release which) hand others e hand' = (o : PayOrder) × (r : Result Paid Returned) × (named hand others which ≡ Some o) × (e ≡ released o r) × (hand' ≡ hand_spent r which hand)
-Makes (Present Hold which) hand others e hand' = (o : PayOrder) × (r : Result (Unit {0}) Returned) × (named hand others which ≡ Some o) × (e ≡ held o r) × (hand' ≡ hand_spent r which hand)
+Makes (Year given) hand others e hand' = (r : Result (Unit {0}) Refusal) × (e ≡ year given r) × (hand' ≡ hand)
+Makes (Tariff given) hand others e hand' = (r : Result (Unit {0}) Refusal) × (e ≡ tariff given r) × (hand' ≡ hand)
+Makes (Meter given) hand others e hand' = (r : Result ℕ Refusal) × (e ≡ meter given r) × (hand' ≡ hand)
+Makes (Deliver given) hand others e hand' = (r : Result (Unit {0}) Refusal) × (e ≡ deliver given r) × (hand' ≡ hand)
+Makes (Close stated) hand others e hand' = (r : Result (Unit {0}) Refusal) × (s : Sheet) × (s' : Sheet) × (e ≡ close stated.readings stated.deliveries s r s') × (hand' ≡ hand)
+Makes (Draw place) hand others e hand' = (r : Result PayOrder Refusal) × (e ≡ draw place r) × (hand' ≡ hand_drawn r hand)
+Makes (Present Release which) hand others e hand' = (o : PayOrder) × (r : Result Paid Returned) × (named hand others which ≡ Some o) × (e ≡ release o r) × (hand' ≡ hand_spent r which hand)
+Makes (Present Hold which) hand others e hand' = (o : PayOrder) × (r : Result (Unit {0}) Returned) × (named hand others which ≡ Some o) × (e ≡ hold o r) × (hand' ≡ hand_spent r which hand)
 
 -- the order named is not there, so that no call can be made
 abbrev pub Lacks : Call → List (Option PayOrder) → List (Option PayOrder) → Type 0

@@ -4,5 +4,6 @@ pub mod Bearing
 pub mod Presenting
 pub mod Histories
 pub mod Steps
+pub mod Desks
 pub mod Holding
 pub mod Performing

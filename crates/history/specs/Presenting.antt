@@ -1,15 +1,20 @@
 -- What presenting an order answers and leaves.
 use Rattle.std.specs.Prelude.{◌≡◌, ℕ, ◌⊎◌, List, Some, None, Ok, Err, Option, Result}
+use Rattle.banks.specs.declared.bank.Bank.{Ghosts as BankGhosts}
+use Rattle.methodology.specs.declared.rules.Methodology.{Ghosts as MarketGhosts}
 use Rattle.orders.specs.declared.order.PayOrder.{PayOrder}
 use Rattle.orders.specs.declared.order.Paid.{Paid}
 use Rattle.orders.specs.declared.order.Returned.{Returned}
 use Rattle.ledger.specs.Views.{View}
 use Rattle.ledger.specs.Calls as calls
+use Rattle.house.specs.declared.house.House.{House}
+use Rattle.house.specs.Shown.{shows}
+use Rattle.history.specs.declared.order_list.Orders.{Orders}
 use Rattle.history.specs.declared.spending.Spending.{Spending}
 use Rattle.history.specs.declared.spending.Spending.TheVariants.{Release, Hold}
 use Rattle.history.specs.declared.answer.Answer.{Answer}
 use Rattle.history.specs.declared.answer.Answer.TheVariants.{Accepted, Paid as PaidOut, Returned as CameBack, Absent}
-use Rattle.history.specs.Slots.{slot, without}
+use Rattle.history.specs.Slots.{slots_of, slot, without}
 
 -- a house takes an order in, or gives it back
 abbrev pub Spends : Spending → View → PayOrder → Result Answer Returned → View → Type 0
@@ -47,3 +52,8 @@ pub record Missing (number : ℕ) (slots : List (Option PayOrder)) (v : View) (a
 abbrev pub Presentation : Spending → ℕ → List (Option PayOrder) → View → Answer → List (Option PayOrder) → View → Type 0
 Presentation how number slots v a slots' w =
     Missing number slots v a slots' w ⊎ ((o : PayOrder) × (r : Result Answer Returned) × Presented how number slots v o r a slots' w)
+
+module _ {B M : Type 0} {bank : BankGhosts B} {market : MarketGhosts M} where
+  -- the same of a house and of a list of orders
+  abbrev pub PresentsIn : Spending → ℕ → House B M bank market → Orders → Answer → House B M bank market → Orders → Type 0
+  PresentsIn how number h orders a h' orders' = Presentation how number (slots_of orders) (shows h) a (slots_of orders') (shows h')

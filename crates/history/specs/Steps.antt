@@ -1,31 +1,20 @@
 -- What a call of a list answers in plain numbers.
 use Rattle.std.specs.Prelude.{◌≡◌, ℕ, ◌+◌, ◌≤◌, length, List, Ok, Err, Option, Result}
-use Rattle.metering.specs.declared.reading.Reading.{Reading}
 use Rattle.agreements.specs.Meaning.{Meaning}
 use Rattle.methodology.specs.Meaning.{Meaning as Market}
 use Rattle.methodology.specs.declared.shape.Shape.{Shape}
-use Rattle.banks.specs.Rows.{at_place}
 use Rattle.accounts.specs.declared.sheet.Sheet.{Sheet}
 use Rattle.orders.specs.declared.order.PayOrder.{PayOrder}
 use Rattle.ledger.specs.declared.refusal.Refusal.{Refusal}
 use Rattle.ledger.specs.Views.{View}
-use Rattle.ledger.specs.Terms.{worth, dues_at}
 use Rattle.ledger.specs.Calls as calls
 use Rattle.history.specs.declared.call.Call.{Call}
 use Rattle.history.specs.declared.call.Stated.{Stated}
 use Rattle.history.specs.declared.answer.Answer.{Answer}
-use Rattle.history.specs.declared.answer.Answer.TheVariants.{Metered, Closed, Drawn, Refused}
+use Rattle.history.specs.declared.answer.Answer.TheVariants.{Closed, Drawn, Refused}
 use Rattle.history.specs.declared.order_list.Orders.{Orders}
 use Rattle.history.specs.Slots.{slots_of, room_in}
 use Rattle.history.specs.Histories.{hand_drawn, Next}
-
--- a reading with its dues
-abbrev pub meter_told : View → Reading → Result (Unit {0}) Refusal → Answer
-meter_told v given (Ok _) = Metered (worth (dues_at (at_place v.row given.number) given))
-meter_told v given (Err why) = Refused why
-
-abbrev pub Meters : View → Reading → Answer → View → Type 0
-Meters v given a w = (r : Result (Unit {0}) Refusal) × (a ≡ meter_told v given r) × calls.Meter v given r w
 
 -- a closing with its sheet
 abbrev pub close_told : Result (Unit {0}) Refusal → Sheet → Answer

@@ -1,7 +1,7 @@
 //! What a call answered, in plain numbers.
 ghost use Rattle.std.specs.Prelude.{◌≡◌, option_map};
 ghost use Rattle.history.specs.Answers.{refusal_of, sheet_of};
-ghost use Rattle.history.specs.Histories.{told};
+ghost use Rattle.history.specs.Histories.{told, meter_told};
 
 use accounts::Sheet;
 use ledger::Refusal;
@@ -55,6 +55,18 @@ impl From<Result<(), Refusal>> for Answer {
     fn from(answer: Result<(), Refusal>) -> Answer {
         match answer {
             Ok(()) => Answer::Accepted,
+            Err(why) => Answer::Refused(why),
+        }
+    }
+}
+
+/// The answer of a reading's call: the dues, where it was accepted.
+impl From<Result<u64, Refusal>> for Answer {
+    ghost from_gives = { λ r a. a ≡ meter_told r };
+
+    fn from(answer: Result<u64, Refusal>) -> Answer {
+        match answer {
+            Ok(dues) => Answer::Metered(dues),
             Err(why) => Answer::Refused(why),
         }
     }

@@ -1,8 +1,8 @@
 //! What an order is presented for, and presenting it.
 ghost use Rattle.std.specs.Prelude.{◌≡◌};
 ghost use Rattle.house.specs.Shown.{shows};
-ghost use Rattle.history.specs.Slots.{slots_of, room_in};
-ghost use Rattle.history.specs.Presenting.{Spends, PresentsAt, Presentation};
+ghost use Rattle.history.specs.Slots.{room_in};
+ghost use Rattle.history.specs.Presenting.{Spends, PresentsAt, PresentsIn};
 
 use crate::answer::Answer;
 use crate::order_list::Orders;
@@ -69,7 +69,7 @@ impl Spending {
         orders: &mut Orders,
         number: usize,
     ) -> Answer
-        ensures done { Presentation self number (slots_of orders.old) (shows house.old) result (slots_of orders.new) (shows house.new) }
+        ensures done { PresentsIn self number house.old orders.old result house.new orders.new }
         ensures room { room_in orders.new ≡ room_in orders.old }
     {
         match index_of(number, orders.slots.len()) {

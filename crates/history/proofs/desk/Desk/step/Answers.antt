@@ -13,7 +13,7 @@ returns-in-Tariff g c =
 
 pub returns-in-Meter : goal.returns-in-Meter
 returns-in-Meter g c =
-    stays (λ shape market row serial. rw c.in-Meter.is (next_meter shape market row serial (slots_of c.args.others.now) c.in-Meter.given c.meter.result _ _ _ c.meter.ensures))
+    stays (λ shape market row serial. rw c.in-Meter.is (next_meter shape market row serial (slots_of c.args.others.now) c.in-Meter.given c.meter.result c.into-in-Meter.result _ _ _ c.into-in-Meter.ensures c.meter.ensures))
 
 pub returns-in-Deliver : goal.returns-in-Deliver
 returns-in-Deliver g c =
