@@ -1,9 +1,9 @@
 -- Orders in hand are held one after another.
 use Rattle.std.proofs.Common.{◌≡◌, ℕ, ◌+◌, ◌*◌, ◌≤◌, true, List, [], ◌∷◌, ◌++◌, is_ok, Ok, Err, Result, sym, refl, ap, ◌∙◌, arith}
 use Rattle.std.proofs.lemmas.Bool.{eqb-true, eq-eqb, le-leb, and_parts, and_from, false≢true}
+use Rattle.arith.specs.Money.{cent}
 use Rattle.orders.specs.declared.order.PayOrder.{PayOrder}
 use Rattle.orders.specs.declared.order.Returned.{Returned}
-use Rattle.orders.specs.Limits.{cent}
 use Rattle.orders.specs.Tills.{stands, ordered_at, mine}
 use Rattle.ledger.specs.Views.{View, till_of, with_till}
 use Rattle.ledger.specs.Calls as calls

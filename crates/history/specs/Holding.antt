@@ -1,8 +1,8 @@
 -- All orders in hand are held.
 use Rattle.std.specs.Prelude.{◌≡◌, ℕ, ◌+◌, ◌*◌, ◌≤◌, List}
+use Rattle.arith.specs.Money.{cent}
 use Rattle.orders.specs.declared.order.PayOrder.{PayOrder}
 use Rattle.orders.specs.declared.till.Till.{Till}
-use Rattle.orders.specs.Limits.{cent}
 use Rattle.orders.specs.Tills.{stands, ordered_at}
 use Rattle.ledger.specs.Views.{View, till_of, with_till}
 use Rattle.ledger.specs.Accepted.{in_hand}

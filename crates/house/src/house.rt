@@ -6,7 +6,7 @@ ghost use Rattle.house.specs.Placed.{Placed};
 use accounts::{Books, Month, Sheet};
 use agreements::Dues;
 use banks::Bank;
-use closing::close;
+use closing::Case;
 use ledger::{Half, Ledger, Refusal, Stage};
 use metering::{Kind, Reading};
 use methodology::Methodology;
@@ -152,17 +152,15 @@ impl<B: Bank, M: Methodology> House<B, M> {
         let Stage::InMonth(number) = self.ledger.stage else {
             return Err(Refusal::NoMonth);
         };
-        close(
-            &self.methodology,
-            &mut self.ledger.books,
-            &self.ledger.rates,
-            &self.ledger.revenues,
+        let case = Case {
+            methodology: &self.methodology,
+            books: &self.ledger.books,
+            rates: &self.ledger.rates,
+            revenues: &self.ledger.revenues,
             number,
-            &self.ledger.month,
-            readings,
-            deliveries,
-            sheet,
-        )?;
+            month: &self.ledger.month,
+        };
+        self.ledger.books = case.close(readings, deliveries, sheet)?;
         self.ledger.month = Month::open();
         self.ledger.stage = Stage::after_month(number);
         Ok(())

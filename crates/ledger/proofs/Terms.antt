@@ -5,7 +5,7 @@ use Rattle.std.specs.Option.{option_map}
 use Rattle.metering.specs.declared.reading.Reading.{Reading}
 use Rattle.agreements.specs.Meaning.{Meaning, moved}
 use Rattle.banks.specs.Rows.{nowhere, at_place, put_at, moved_at}
-use Rattle.banks.specs.Places.{at_in, by_place}
+use Rattle.banks.specs.lemmas.Places.{at_in, by_place}
 use Rattle.ledger.specs.Terms.{worth, dues_at, moved_by, gives, place_after, given_at}
 
 moved_by_more : (m : Meaning) (rs : List Reading) (r : Reading) → moved_by m (rs ++ r ∷ []) ≡ moved (moved_by m rs) r

@@ -5,7 +5,7 @@ use Rattle.metering.specs.declared.kind.Kind.{Kind}
 use Rattle.metering.specs.declared.kind.Kind.TheVariants.{Generator, Licensee}
 use Rattle.metering.specs.declared.reading.Reading.{Reading}
 use Rattle.agreements.specs.declared.dues.Dues.{Dues}
-use Rattle.banks.specs.Rows.{at_place, outcome_at, Books as Booked}
+use Rattle.banks.specs.Rows.{at_place, outcome_at, Booked}
 use Rattle.rates.specs.Heads.{unset, rates_at}
 use Rattle.accounts.specs.declared.sheet.Sheet.{Sheet}
 use Rattle.accounts.specs.Books.{Unused, PeriodBegun, earlier}

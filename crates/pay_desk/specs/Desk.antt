@@ -3,7 +3,8 @@ use Rattle.std.specs.Prelude.{◌≡◌, ℕ, ◌+◌, ◌-◌, ◌*◌, ◌/◌
 use Rattle.orders.specs.declared.order.PayOrder.{PayOrder}
 use Rattle.orders.specs.declared.order.Paid.{Paid}
 use Rattle.orders.specs.declared.order.Returned.{Returned}
-use Rattle.orders.specs.Limits.{cent, returned_number}
+use Rattle.arith.specs.Money.{cent}
+use Rattle.orders.specs.Refusals.{returned_number}
 use Rattle.orders.specs.Tills.{stands, ordered_at, mine, Puts}
 use Rattle.ledger.specs.declared.refusal.Refusal.{Refusal}
 use Rattle.ledger.specs.Views.{View, till_of, with_till}
