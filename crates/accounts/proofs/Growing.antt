@@ -2,16 +2,16 @@
 use Rattle.std.proofs.Common.{◌≡◌, ℕ, zero, suc, ◌+◌, ◌-◌, ◌*◌, ◌<◌, ◌≤◌, true, false, List, length, get_or, take, set, sum, refl, ap, ◌∙◌, mul-zero, add-one, arith}
 use Rattle.std.proofs.lemmas.List.{take_all}
 use Rattle.std.proofs.lemmas.List.Sums.{sum_by_more}
-use Rattle.metering.specs.Limits.{block_count, energy_limit, demand_limit, number_limit}
-use Rattle.metering.specs.declared.reading.Kind.{Kind}
-use Rattle.metering.specs.declared.reading.Kind.TheVariants.{Generator, Licensee}
+use Rattle.metering.specs.Limits.{block_count, energy_limit, demand_limit, number_limit, place_limit, reading_limit}
+use Rattle.metering.specs.declared.kind.Kind.{Kind}
+use Rattle.metering.specs.declared.kind.Kind.TheVariants.{Generator, Licensee}
 use Rattle.metering.specs.declared.reading.Reading.{Reading}
 use Rattle.methodology.specs.Limits.{head_limit}
 use Rattle.agreements.specs.Limits.{due_limit}
 use Rattle.agreements.specs.Dues.{capacity_due, block_sum}
 use Rattle.agreements.specs.declared.dues.Dues.{Dues}
 use Rattle.accounts.specs.declared.month.Month.{Month}
-use Rattle.accounts.specs.Limits.{place_limit, balance_limit, month_energy_limit}
+use Rattle.accounts.specs.Limits.{balance_limit}
 use Rattle.accounts.specs.Sums.{sum_to}
 use Rattle.accounts.specs.Rules.{Rules, head_count, Regular}
 use Rattle.accounts.specs.Tables.{total, under}
@@ -57,7 +57,7 @@ module _ (r : Rules) (regular : Regular r) (first : ℕ) (blocks before after : 
       rw e at (grown_to (head_limit - 1 - r.revenues) (omega (arith, regular.few)) (omega (arith, regular.few)))
 
 -- a reading's energy, kWh
-pub energy_within : (reading : Reading) → total reading.blocks ≤ month_energy_limit
+pub energy_within : (reading : Reading) → total reading.blocks ≤ reading_limit
 unfolding total
 energy_within reading = omega (arith, sum_le (λ b. get_or reading.blocks b 0) energy_limit block_count reading.each)
 
@@ -81,16 +81,16 @@ module _ (revenues : ℕ) (interval : ℕ → ℕ) where
   due_within dues full capacity blocks k =
       under_le revenues interval (capacity_due dues) 0 dues.blocks due_limit k capacity (omega arith) (omega (arith, total_sum dues.blocks full))
 
-  pub taken_within : (reading : Reading) (demand : ℕ) → demand ≤ demand_limit → (k : ℕ) → under revenues interval demand demand reading.blocks k ≤ month_energy_limit
+  pub taken_within : (reading : Reading) (demand : ℕ) → demand ≤ demand_limit → (k : ℕ) → under revenues interval demand demand reading.blocks k ≤ reading_limit
   taken_within reading demand moderate k =
-      under_le revenues interval demand demand reading.blocks month_energy_limit k (omega arith) (omega arith) (energy_within reading)
+      under_le revenues interval demand demand reading.blocks reading_limit k (omega arith) (omega arith) (energy_within reading)
 
 -- what a generator's reading makes of a month: its flag is counted, the tables keep their limits, and every grain comes in
 pub record Grown (r : Rules) (month : Month) (reading : Reading) (dues : Dues) (income sent : List ℕ) : Type 0 where
   pub readings : count_true (set month.read (reading.number - 1) true) ≡ readings_in month + 1
   pub earned : (k : ℕ) → k < head_limit → get_or income k 0 ≤ count_true (set month.read (reading.number - 1) true) * due_limit
   pub within : sum_to (λ k. get_or income k 0) head_limit ≤ count_true (set month.read (reading.number - 1) true) * (2 * due_limit)
-  pub supplied : (k : ℕ) → k < head_limit → get_or sent k 0 ≤ count_true (set month.read (reading.number - 1) true) * month_energy_limit
+  pub supplied : (k : ℕ) → k < head_limit → get_or sent k 0 ≤ count_true (set month.read (reading.number - 1) true) * reading_limit
   pub whole : sum_to (λ k. get_or income k 0) (head_count r) ≡ income_of r month + capacity_due dues + block_sum dues
 
 -- where its place was not read, and the dues keep the ceiling

@@ -1,10 +1,10 @@
 -- What lasts from month to month.
 use Rattle.std.specs.Prelude.{◌≡◌, ℕ, ◌<◌, List, map, ℤ, pos, ◌-ℤ◌, slice_index, slice_index_or}
 use Rattle.std.proofs.Common.{lit≤}
+use Rattle.metering.specs.Limits.{licensee_limit}
 use Rattle.methodology.specs.Limits.{head_limit}
 use Rattle.accounts.specs.declared.account.Account.{Account}
 use Rattle.accounts.specs.declared.books.Books.{Books}
-use Rattle.accounts.specs.Limits.{licensee_limit}
 
 abbrev pub no_account : Account
 no_account =

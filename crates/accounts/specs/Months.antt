@@ -1,6 +1,7 @@
 -- How a month grows, reading by reading.
 use Rattle.std.specs.Prelude.{◌≡◌, ℕ, ◌+◌, ◌-◌, ◌<◌, Bool, true, false, cond, ◌&&◌, is_some, Some, None, Ok, Err, Option, Result, ◌≢◌, nat_le, nat_lt, slice_index, slice_index_or, slice_set}
 use Rattle.metering.specs.declared.reading.Reading.{Reading}
+use Rattle.metering.specs.Limits.{licensee_limit}
 use Rattle.methodology.specs.Limits.{head_limit}
 use Rattle.agreements.specs.Limits.{due_limit}
 use Rattle.agreements.specs.Dues.{capacity_due, block_sum}
@@ -11,7 +12,6 @@ use Rattle.accounts.specs.declared.month.Unadded.{Unadded}
 use Rattle.accounts.specs.declared.month.Unadded.TheVariants.{Again, Ceiling}
 use Rattle.accounts.specs.declared.month.Undelivered.{Undelivered}
 use Rattle.accounts.specs.declared.month.Undelivered.TheVariants as delivery
-use Rattle.accounts.specs.Limits.{licensee_limit}
 use Rattle.accounts.specs.Sums.{sum_to}
 use Rattle.accounts.specs.Counts.{count_true, count_some}
 use Rattle.accounts.specs.Rules.{Rules, head_count}

@@ -1,18 +1,18 @@
 //! What lasts from month to month.
 ghost use Rattle.std.specs.Prelude.{◌≡◌, ℕ, ◌<◌, length, slice_index};
+ghost use Rattle.metering.specs.Limits.{licensee_limit};
 ghost use Rattle.methodology.specs.Limits.{head_limit};
 ghost use Rattle.arith.specs.Money.{cent};
-ghost use Rattle.accounts.specs.Limits.{licensee_limit};
 
 use crate::account::Account;
-use crate::delivery::LICENSEES;
+use metering::LICENSEE_COUNT;
 use rates::HEADS;
 
 /// The heads' accounts, head 1 first, and each licensee's fraction of a cent, in grains, licensee 1 first.
 #[derive(Clone, Copy)]
 pub struct Books {
     pub accounts: [Account; HEADS],
-    pub fractions: [u64; LICENSEES],
+    pub fractions: [u64; LICENSEE_COUNT],
     ghost headed: { length accounts ≡ head_limit },
     ghost full: { length fractions ≡ licensee_limit },
     ghost cents: { (l : ℕ) → l < licensee_limit → slice_index fractions l < cent },
@@ -33,7 +33,7 @@ impl Books {
         };
         Books {
             accounts: [account; HEADS],
-            fractions: [0; LICENSEES],
+            fractions: [0; LICENSEE_COUNT],
         }
     }
 

@@ -10,8 +10,8 @@ mod tables;
 
 pub use account::{Account, BALANCE_LIMIT};
 pub use books::Books;
-pub use delivery::{Delivery, LICENSEES};
-pub use month::{Month, PLACES, Unadded, Undelivered};
+pub use delivery::Delivery;
+pub use month::{Month, Unadded, Undelivered};
 pub use sheet::{Billed, HeadLine, Sheet};
 
 #[cfg(test)]

@@ -1,25 +1,21 @@
 //! The open month, as sums.
 ghost use Rattle.std.specs.Prelude.{◌≡◌, ℕ, ◌+◌, ◌*◌, ◌<◌, ◌≤◌, ◌&&◌, false, length, MatchResult, nat_le, slice_index};
-ghost use Rattle.metering.specs.Limits.{block_count};
+ghost use Rattle.metering.specs.Limits.{block_count, place_limit, licensee_limit, reading_limit};
 ghost use Rattle.methodology.specs.Limits.{head_limit};
 ghost use Rattle.agreements.specs.Limits.{due_limit};
 ghost use Rattle.agreements.specs.Dues.{capacity_due, block_sum};
-ghost use Rattle.accounts.specs.Limits.{place_limit, licensee_limit, month_energy_limit};
 ghost use Rattle.accounts.specs.Rules.{rules_of};
 ghost use Rattle.accounts.specs.Sums.{sum_to};
 ghost use Rattle.accounts.specs.Counts.{count_true};
 ghost use Rattle.accounts.specs.Tables.{under};
 
-use crate::delivery::{Delivery, LICENSEES};
+use crate::delivery::Delivery;
 use crate::tables::{added, by_head, widened};
 use agreements::Dues;
 use agreements::limits::DUE_LIMIT;
-use metering::{Reading, index_of};
+use metering::{LICENSEE_COUNT, LICENSEES, PLACE_COUNT, Reading, index_of};
 use methodology::Methodology;
 use rates::HEADS;
-
-/// Most places that a market has, as the length of a list. A cast, since a constant cannot call `From`.
-pub const PLACES: usize = metering::PLACES as usize;
 
 /// What the readings of a month come to so far. Tables by head have head 1 first, lists place 1 or licensee 1.
 #[derive(Clone, Copy)]
@@ -29,16 +25,16 @@ pub struct Month {
     /// Energy sent in, kWh, at the intervals.
     pub sent: [u64; HEADS],
     /// The places that were read.
-    pub read: [bool; PLACES],
+    pub read: [bool; PLACE_COUNT],
     /// The licensees that delivered, with what each took.
-    pub licensees: [Option<Delivery>; LICENSEES],
+    pub licensees: [Option<Delivery>; LICENSEE_COUNT],
     ghost headed: { length income ≡ head_limit },
     ghost metered: { length sent ≡ head_limit },
     ghost full: { length read ≡ place_limit },
     ghost listed: { length licensees ≡ licensee_limit },
     ghost earned: { (k : ℕ) → k < head_limit → slice_index income k ≤ count_true read * due_limit },
     ghost whole: { sum_to (λ k. slice_index income k) head_limit ≤ count_true read * (2 * due_limit) },
-    ghost supplied: { (k : ℕ) → k < head_limit → slice_index sent k ≤ count_true read * month_energy_limit },
+    ghost supplied: { (k : ℕ) → k < head_limit → slice_index sent k ≤ count_true read * reading_limit },
 }
 
 impl Month {
@@ -51,8 +47,8 @@ impl Month {
         Month {
             income: [0; HEADS],
             sent: [0; HEADS],
-            read: [false; PLACES],
-            licensees: [None; LICENSEES],
+            read: [false; PLACE_COUNT],
+            licensees: [None; LICENSEE_COUNT],
         }
     }
 
@@ -81,14 +77,14 @@ impl Month {
     pub fn is_read(&self, place: u8) -> bool
         ensures { result ≡ (nat_le 1 place && read_at self.now place) }
     {
-        index_of(usize::from(place), PLACES).is_some_and(|i| self.read[i])
+        index_of(usize::from(place), PLACE_COUNT).is_some_and(|i| self.read[i])
     }
 
     /// Whether a licensee delivered. Licensees count from 1; one that no market has did not.
     pub fn has_delivered(&self, licensee: u8) -> bool
         ensures { result ≡ (nat_le 1 licensee && delivered_at self.now licensee) }
     {
-        index_of(usize::from(licensee), LICENSEES)
+        index_of(usize::from(licensee), LICENSEE_COUNT)
             .and_then(|i| self.licensees.get(i))
             .is_some_and(|delivery| delivery.is_some())
     }
@@ -123,7 +119,7 @@ impl Month {
         ensures answered { result ≡ delivery_answer self.old reading.now }
         ensures after { MatchResult result (λ _. Delivered (rules_of M.shape (M.meaning m.now)) self.old reading.now self.new) (λ _. self.new ≡ self.old) }
     {
-        if usize::from(reading.number) > LICENSEES {
+        if reading.number > LICENSEES {
             return Err(Undelivered::NoLicensee);
         }
         if self.has_delivered(reading.number) {

@@ -1,5 +1,5 @@
 //! The sheet of a closing.
-use crate::delivery::LICENSEES;
+use metering::LICENSEE_COUNT;
 use methodology::Shape;
 use rates::HEADS;
 
@@ -26,7 +26,7 @@ pub struct Sheet {
     pub month: u8,
     pub shape: Shape,
     pub heads: [HeadLine; HEADS],
-    pub licensees: [Option<Billed>; LICENSEES],
+    pub licensees: [Option<Billed>; LICENSEE_COUNT],
     /// What the intervals keep back of their unit costs, summed, in grains.
     pub margin: i64,
 }
@@ -42,7 +42,7 @@ impl Sheet {
             month: 0,
             shape,
             heads: [HeadLine::default(); HEADS],
-            licensees: [None; LICENSEES],
+            licensees: [None; LICENSEE_COUNT],
             margin: 0,
         }
     }

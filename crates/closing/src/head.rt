@@ -1,9 +1,10 @@
 //! A head of a case: its tests, and what it spreads over its quantity.
 ghost use Rattle.std.specs.Prelude.{◌≡◌, ℕ, ◌+◌, ◌*◌, ◌/◌, ◌%◌, ◌<◌, ◌≤◌, true, false, pos, nat_le, ◌-ℤ◌, ◌*ℤ◌, slice_index};
+ghost use Rattle.metering.specs.Limits.{reading_limit};
 ghost use Rattle.methodology.specs.Limits.{head_limit, revenue_limit, supply_limit};
 ghost use Rattle.rates.specs.Heads.{rates_at};
 ghost use Rattle.rates.specs.Limits.{yearly_limit};
-ghost use Rattle.accounts.specs.Limits.{month_energy_limit, carry_limit};
+ghost use Rattle.accounts.specs.Limits.{carry_limit};
 ghost use Rattle.accounts.specs.Months.{taken};
 ghost use Rattle.settlement.specs.Closing.{heads, limit_of, old, share_of, share, pool, sent, quantity, unit, rest, supply, spread, margin, Empty, Unsupplied};
 ghost use Rattle.closing.specs.Cases.{shows, Told};
@@ -193,7 +194,7 @@ pub fn divided(amount: u64, quantity: u64) -> (u64, u64)
 fn taken_by(licensee: &Option<Delivery>, k: usize) -> u64
     requires { k < head_limit }
     ensures value { result ≡ taken licensee.now k }
-    ensures most { result ≤ month_energy_limit }
+    ensures most { result ≤ reading_limit }
 {
     licensee.map_or(0, |delivery| delivery.taken[k])
 }

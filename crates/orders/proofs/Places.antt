@@ -3,6 +3,7 @@ use Rattle.std.proofs.Common.{◌≡◌, ◌==◌, nat_le, ℕ, ◌+◌, ◌-◌
 use Rattle.std.proofs.lemmas.List.{get_or_past, get_or-replicate, get_or_default}
 use Rattle.std.proofs.lemmas.Bool.{cases_lt, le-leb, leb-true, and_parts, and_from, false≢true}
 use lib.ListN.{length-replicate}
+use Rattle.metering.specs.Limits.{place_limit}
 use Rattle.orders.specs.declared.money.Money.{Money}
 use Rattle.orders.specs.declared.order.PayOrder.{PayOrder}
 use Rattle.orders.specs.declared.order.Paid.{Paid}
@@ -10,7 +11,7 @@ use Rattle.orders.specs.declared.till.Till.{Till}
 use Rattle.orders.specs.declared.till.CreditRefusal.{CreditRefusal}
 use Rattle.orders.specs.declared.till.CreditRefusal.TheVariants.{NoPlace, TooMuch}
 use Rattle.arith.specs.Money.{cent}
-use Rattle.orders.specs.Limits.{money_limit, place_limit}
+use Rattle.orders.specs.Limits.{money_limit}
 use Rattle.orders.specs.Tills.{no_money, money_at, stands, ordered_at, is_place, Puts, New, Credits, Releases}
 
 -- where there is no such place there is no money

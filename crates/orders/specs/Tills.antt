@@ -1,6 +1,7 @@
 -- What a till holds at each place, and what its calls answer and leave.
 use Rattle.std.specs.Prelude.{◌≡◌, ℕ, ◌+◌, ◌-◌, ◌*◌, ◌/◌, ◌%◌, ◌<◌, ◌≤◌, Bool, true, false, ◌&&◌, Ok, Err, Result, ◌==◌, ◌≢◌, nat_le, slice_index_or}
 use Rattle.std.proofs.Common.{lit≤}
+use Rattle.metering.specs.Limits.{place_limit}
 use Rattle.orders.specs.declared.money.Money.{Money}
 use Rattle.orders.specs.declared.order.PayOrder.{PayOrder}
 use Rattle.orders.specs.declared.order.Paid.{Paid}
@@ -11,7 +12,7 @@ use Rattle.orders.specs.declared.till.DrawRefusal.TheVariants as draw
 use Rattle.orders.specs.declared.till.CreditRefusal.{CreditRefusal}
 use Rattle.orders.specs.declared.till.CreditRefusal.TheVariants as credit
 use Rattle.arith.specs.Money.{cent}
-use Rattle.orders.specs.Limits.{money_limit, place_limit}
+use Rattle.orders.specs.Limits.{money_limit}
 
 -- what is read past the end of the list of places
 abbrev pub no_money : Money

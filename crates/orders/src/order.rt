@@ -1,6 +1,6 @@
 //! Pay orders: plain numbers, made by a draw and spent by a release or a hold.
 ghost use Rattle.std.specs.Prelude.{◌≡◌, ◌<◌, ◌≤◌};
-ghost use Rattle.orders.specs.Limits.{place_limit};
+ghost use Rattle.metering.specs.Limits.{place_limit};
 ghost use Rattle.orders.specs.Refusals.{returned_number};
 
 use crate::place::Place;

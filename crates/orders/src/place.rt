@@ -1,6 +1,6 @@
 //! The places of a market.
 ghost use Rattle.std.specs.Prelude.{◌≡◌, ◌+◌, ◌≤◌, true, false, MatchOption};
-ghost use Rattle.orders.specs.Limits.{place_limit};
+ghost use Rattle.metering.specs.Limits.{place_limit};
 ghost use Rattle.orders.specs.Tills.{is_place};
 
 use metering::PLACES;

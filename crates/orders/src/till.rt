@@ -1,16 +1,13 @@
 //! The till of a house: the money of each place, under the house's serial number.
 ghost use Rattle.std.specs.Prelude.{◌≡◌, ◌≤◌, false, length};
-ghost use Rattle.orders.specs.Limits.{place_limit};
+ghost use Rattle.metering.specs.Limits.{place_limit};
 ghost use Rattle.orders.specs.Refusals.{draw_number, credit_number};
 
 use crate::money::Money;
 use crate::order::{Paid, PayOrder, Returned};
 use crate::place::Place;
 use arith::{CENT, split};
-
-/// Most places: as many as stations can be told apart by.
-/// By `as`, since `from` cannot be called in a constant.
-pub const PLACES: usize = metering::PLACES as usize;
+use metering::PLACE_COUNT;
 
 /// The number of the refusal that there is no such place.
 const NO_PLACE: u8 = 8;
@@ -19,7 +16,7 @@ const NO_PLACE: u8 = 8;
 #[derive(Drop)]
 pub struct Till {
     serial: u64,
-    money: [Money; PLACES],
+    money: [Money; PLACE_COUNT],
     ghost full: { length money ≡ place_limit },
 }
 
@@ -32,7 +29,7 @@ impl Till {
     {
         Till {
             serial,
-            money: [Money::none(); PLACES],
+            money: [Money::none(); PLACE_COUNT],
         }
     }
 

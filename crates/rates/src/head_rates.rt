@@ -1,5 +1,5 @@
 //! The rates of a head.
-ghost use Rattle.std.specs.Prelude.{◌≤◌};
+ghost use Rattle.std.specs.Prelude.{◌≡◌, ◌≤◌};
 ghost use Rattle.arith.specs.Money.{demand_rate_limit};
 ghost use Rattle.methodology.specs.Limits.{factor_limit};
 
@@ -15,4 +15,19 @@ pub struct HeadRates {
     ghost priced: { published ≤ demand_rate_limit },
     ghost based: { base ≤ demand_rate_limit },
     ghost filed: { factor ≤ factor_limit },
+}
+
+impl HeadRates {
+    ghost use Rattle.rates.specs.Heads.{unset};
+
+    /// A head's rates that no tariff has set.
+    pub fn unset() -> HeadRates
+        ensures { result ≡ unset }
+    {
+        HeadRates {
+            published: 0,
+            base: 0,
+            factor: 0,
+        }
+    }
 }

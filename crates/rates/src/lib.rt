@@ -4,8 +4,7 @@
 pub mod head_rates;
 pub mod published;
 pub mod revenues;
-pub mod unset;
 
 pub use head_rates::HeadRates;
 pub use published::{HEADS, Rates};
-pub use revenues::{REVENUES, Revenues};
+pub use revenues::{REVENUES, Revenues, YEARLY_LIMIT};

@@ -1,5 +1,5 @@
 //! The rates that a tariff publishes.
-ghost use Rattle.std.specs.Prelude.{◌≡◌, length};
+ghost use Rattle.std.specs.Prelude.{◌≡◌, ℕ, length};
 ghost use Rattle.methodology.specs.Limits.{head_limit};
 
 use crate::head_rates::HeadRates;
@@ -14,4 +14,19 @@ pub struct Rates {
     pub shape: Shape,
     pub heads: [HeadRates; HEADS],
     ghost full: { length heads ≡ head_limit },
+}
+
+impl Rates {
+    ghost use Rattle.rates.specs.Heads.{unset, rates_at};
+
+    /// Rates that no tariff has set.
+    pub fn unset(shape: Shape) -> Rates
+        ensures heads { result.shape ≡ shape }
+        ensures none { (k : ℕ) → rates_at result k ≡ unset }
+    {
+        Rates {
+            shape,
+            heads: [HeadRates::unset(); HEADS],
+        }
+    }
 }

@@ -6,6 +6,9 @@ ghost use Rattle.rates.specs.Limits.{yearly_limit};
 /// Most allowed revenues that a market has.
 pub const REVENUES: usize = 3;
 
+/// Most that a year may allow a company, cents.
+pub const YEARLY_LIMIT: u64 = 10_000_000_000_000;
+
 /// What each company may collect in the year, in cents; 0 for those that the market has not.
 #[derive(Clone, Copy)]
 pub struct Revenues {

@@ -6,10 +6,10 @@ use Rattle.std.proofs.lemmas.Bool.{ne_eqb}
 use Rattle.std.proofs.lemmas.Bool.Decides.{nat_tests}
 use Rattle.arith.specs.Money.{cent}
 use Rattle.arith.specs.Months.{share as month-share}
+use Rattle.metering.specs.Limits.{licensee_limit}
 use Rattle.accounts.specs.declared.books.Books.{Books}
 use Rattle.accounts.specs.declared.delivery.Delivery.{Delivery}
 use Rattle.accounts.specs.declared.sheet.Sheet.{Sheet}
-use Rattle.accounts.specs.Limits.{licensee_limit}
 use Rattle.accounts.specs.Sums.{sum_to, sum_toℤ, Never}
 use Rattle.accounts.proofs.Sums.{sum_none, sum_next, sum_same, sumℤ_same, sum_add, sum_zero, sum_scale, sum_swap, sum_split}
 use Rattle.accounts.specs.Months.{licensee_at, taken, income_of}

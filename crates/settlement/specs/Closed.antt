@@ -1,5 +1,6 @@
 -- What a closing answers, and what it leaves in books and sheet.
 use Rattle.std.specs.Prelude.{◌≡◌, ℕ, ◌<◌, ◌≤◌, Some, None, Ok, Err, Option, Result}
+use Rattle.metering.specs.Limits.{licensee_limit}
 use Rattle.methodology.specs.Limits.{head_limit}
 use Rattle.accounts.specs.declared.account.Account.{Account}
 use Rattle.accounts.specs.declared.books.Books.{Books}
@@ -7,7 +8,6 @@ use Rattle.accounts.specs.declared.delivery.Delivery.{Delivery}
 use Rattle.accounts.specs.declared.sheet.HeadLine.{HeadLine}
 use Rattle.accounts.specs.declared.sheet.Billed.{Billed}
 use Rattle.accounts.specs.declared.sheet.Sheet.{Sheet}
-use Rattle.accounts.specs.Limits.{licensee_limit}
 use Rattle.accounts.specs.Sums.{sum_toℤ, First, Never}
 use Rattle.accounts.specs.Months.{licensee_at, readings_in, deliveries_in}
 use Rattle.accounts.specs.Books.{account_at, fraction_at}

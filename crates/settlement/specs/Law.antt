@@ -2,10 +2,10 @@
 use Rattle.std.specs.Prelude.{◌≡◌, ℕ, ◌*◌, ◌<◌, ℤ, pos, ◌+ℤ◌, Some, None, Ok, Err, Option, Result, slice_index, ⊤}
 use Rattle.arith.specs.Money.{cent}
 use Rattle.arith.specs.Months.{share as month-share}
+use Rattle.metering.specs.Limits.{licensee_limit}
 use Rattle.accounts.specs.declared.books.Books.{Books}
 use Rattle.accounts.specs.declared.sheet.Billed.{Billed}
 use Rattle.accounts.specs.declared.sheet.Sheet.{Sheet}
-use Rattle.accounts.specs.Limits.{licensee_limit}
 use Rattle.accounts.specs.Sums.{sum_to, sum_toℤ, Never}
 use Rattle.accounts.specs.Months.{income_of}
 use Rattle.accounts.specs.Books.{account_at, fraction_at}

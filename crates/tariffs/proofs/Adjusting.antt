@@ -7,8 +7,8 @@ use Rattle.std.proofs.lemmas.Int.{ints, to_z-of_z}
 use Rattle.std.proofs.lemmas.Bool.{and_parts, leb-true, false≢true, cond_both}
 use Rattle.arith.specs.Division.{floor}
 use Rattle.arith.specs.Interest.{adjustment_of}
+use Rattle.arith.specs.Money.{demand_rate_limit, energy_rate_limit}
 use Rattle.arith.specs.Scaling.{more_by_signed}
-use Rattle.methodology.specs.Limits.{demand_rate_limit, energy_rate_limit}
 use Rattle.methodology.specs.declared.shape.Shape.{Shape}
 use Rattle.tariffs.specs.declared.filing.Filing.{Filing}
 use Rattle.tariffs.specs.Publishing.{demand_head, limit_at, base_rate, per_unit, adjustment_at, published_rate, energy_fits, keeps, rate_fits}

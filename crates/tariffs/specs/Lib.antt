@@ -4,3 +4,4 @@ pub mod Refusals
 pub mod Years
 pub mod Filing
 pub mod Publishing
+pub mod Filed

@@ -1,17 +1,16 @@
--- The limits of what a tariff files, and the coin that rates are counted in.
-use Rattle.std.specs.Prelude.{ℕ, ◌^◌}
-
--- grains in a cent
-abbrev pub grains_per_cent : ℕ
-grains_per_cent = 10000
+-- The limits of what a tariff files.
+use Rattle.std.specs.Prelude.{ℕ, ◌*◌, ◌/◌, ◌^◌}
+use Rattle.arith.specs.Months.{months_of_year}
+use Rattle.arith.specs.Scaling.{whole_ppm}
+use Rattle.metering.specs.Limits.{demand_limit, licensee_limit}
 
 -- most that a cost may be, cents
 abbrev pub cost_limit : ℕ
 cost_limit = 10 ^ 14
 
--- most that six monthly peaks may add up to, kW: 8 licensees at 2,000,000 each month
+-- most that six monthly peaks may add up to, kW: the greatest demand of every licensee in each month of a half-year
 abbrev pub peaks_limit : ℕ
-peaks_limit = 96000000
+peaks_limit = months_of_year / 2 * licensee_limit * demand_limit
 
 -- most energy that may be sent in, kWh
 abbrev pub sent_limit : ℕ
@@ -27,4 +26,4 @@ coefficient_limit = 4000
 
 -- most that the interest may be, ppm
 abbrev pub interest_limit : ℕ
-interest_limit = 1000000
+interest_limit = whole_ppm

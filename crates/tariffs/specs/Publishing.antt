@@ -1,9 +1,9 @@
 -- The rates of each head, and what publishing a tariff answers. Heads are counted from 1; a table has head 1 at place 0.
 use Rattle.std.specs.Prelude.{◌≡◌, ℕ, ◌+◌, ◌-◌, ◌*◌, ◌/◌, ◌<◌, ◌≤◌, Bool, true, false, cond, ◌&&◌, List, ℤ, pos, ◌+ℤ◌, Ok, Err, Result, ◌==◌, int_le, nat_le, slice_index, slice_index_or, unsigned_abs}
 use Rattle.arith.specs.Division.{floor}
+use Rattle.arith.specs.Money.{cent, energy_rate_limit}
 use Rattle.arith.specs.Scaling.{more_by, more_by_signed, thousandths}
 use Rattle.methodology.specs.Heads.{heads_of, head_at, by_demand, rate_limit}
-use Rattle.methodology.specs.Limits.{energy_rate_limit}
 use Rattle.methodology.specs.Meaning.{UpTo}
 use Rattle.methodology.specs.declared.shape.Shape.{Shape}
 use Rattle.rates.specs.declared.head_rates.HeadRates.{HeadRates}
@@ -13,11 +13,10 @@ use Rattle.tariffs.specs.declared.filing.Filing.{Filing}
 use Rattle.tariffs.specs.declared.refusal.TariffFault.{TariffFault}
 use Rattle.tariffs.specs.declared.refusal.TariffFault.TheVariants.{Misfiled, OutOfRange}
 use Rattle.tariffs.specs.Filing.{filing_fits}
-use Rattle.tariffs.specs.Limits.{grains_per_cent}
 
 -- a cost in cents over a quantity, grains per unit
 abbrev pub per_cost : ℕ → ℕ → ℕ
-per_cost cents quantity = grains_per_cent * cents / quantity
+per_cost cents quantity = cent * cents / quantity
 
 -- the number of the first interval's head
 abbrev pub first_interval : Shape → ℕ
@@ -41,12 +40,16 @@ generation_energy filing = per_cost filing.energy_cost filing.sent
 unfoldable pub filed_factor : Shape → Filing → ℕ → ℕ
 filed_factor shape filing number = cond (demand_head shape number) 0 (at_interval shape filing.factors.figures number)
 
+-- the coefficient of an interval, thousandths
+abbrev pub coefficient_of : Shape → Filing → ℕ → ℕ
+coefficient_of shape filing number = at_interval shape filing.coefficients.figures number
+
 -- a demand head's cost over the peaks; an interval's share of generation energy, with its losses, then with its coefficient
 unfoldable pub base_rate : Shape → Filing → ℕ → ℕ
 base_rate shape filing number =
     cond (demand_head shape number)
     (per_cost (slice_index filing.costs.figures (number - 1)) filing.peaks)
-    (thousandths (at_interval shape filing.coefficients.figures number) (more_by (filed_factor shape filing number) (generation_energy filing)))
+    (thousandths (coefficient_of shape filing number) (more_by (filed_factor shape filing number) (generation_energy filing)))
 
 -- the quantity that the head is forecast to bill, kW or kWh
 unfoldable pub forecast : Shape → Filing → ℕ → ℕ

@@ -1,6 +1,14 @@
 //! A tariff as it is filed, in any numbers.
-use crate::row::Row;
+ghost use Rattle.std.specs.Prelude.{◌≡◌};
+ghost use Rattle.tariffs.specs.Filing.{rows_fit, singles_fit};
 
+use crate::limits::{
+    COEFFICIENT_LIMIT, COST_LIMIT, DELIVERED_LIMIT, INTEREST_LIMIT, PEAKS_LIMIT, SENT_LIMIT,
+};
+use crate::row::{Row, lies_between};
+use methodology::{FACTOR_LIMIT, Shape};
+
+/// Costs in cents, quantities of the half-year that the tariff is for. Rows of demand heads have generation first.
 #[derive(Clone, Copy)]
 pub struct Filing {
     /// The cost of each demand head, cents.
@@ -19,4 +27,30 @@ pub struct Filing {
     pub coefficients: Row,
     /// The interest on what an earlier period left over, ppm.
     pub interest: u64,
+}
+
+impl Filing {
+    /// Whether the rows fit the heads, and their figures keep their limits.
+    #[tactic(auto, using(std::proofs::lemmas::Bool::Decides::nat_tests), unfolding(crate::specs::Filing::rows_fit))]
+    pub(crate) fn rows_fit(&self, shape: Shape) -> bool
+        ensures { result ≡ rows_fit shape self.now }
+    {
+        self.costs.fits(0, COST_LIMIT, 1 + shape.revenues)
+            && self.delivered.fits(1, DELIVERED_LIMIT, shape.intervals)
+            && self.factors.fits(0, FACTOR_LIMIT, shape.intervals)
+            && self
+                .coefficients
+                .fits(0, COEFFICIENT_LIMIT, shape.intervals)
+    }
+
+    /// Whether the figures that are filed once keep their limits.
+    #[tactic(auto, using(std::proofs::lemmas::Bool::Decides::nat_tests), unfolding(crate::specs::Filing::singles_fit))]
+    pub(crate) fn singles_fit(&self) -> bool
+        ensures { result ≡ singles_fit self.now }
+    {
+        lies_between(1, PEAKS_LIMIT, self.peaks)
+            && self.energy_cost <= COST_LIMIT
+            && lies_between(1, SENT_LIMIT, self.sent)
+            && self.interest <= INTEREST_LIMIT
+    }
 }

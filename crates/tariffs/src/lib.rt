@@ -2,11 +2,10 @@
 #![tactic(auto)]
 
 mod filed;
+mod filed_head;
 pub mod filing;
-mod fitting;
 pub mod limits;
 pub mod publishing;
-mod rating;
 pub mod refusal;
 pub mod row;
 pub mod year;
@@ -23,7 +22,6 @@ mod tests {
     use methodology::{Methodology, ThreeIntervals};
     use rates::HEADS;
 
-    // `worked_figures` has this filing too: that crate stands above this one.
     fn worked(interest: u64) -> Filing {
         Filing {
             costs: Row::of(&[1_080, 486, 49]),

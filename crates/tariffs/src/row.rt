@@ -1,12 +1,14 @@
 //! A row of figures as a filer gives it.
-ghost use Rattle.std.specs.Prelude.{◌≡◌, ℕ, ◌<◌, length, slice_index};
+ghost use Rattle.std.specs.Prelude.{◌≡◌, ℕ, ◌<◌, ◌≤◌, length, slice_index};
+ghost use Rattle.std.specs.List.{list_all};
+ghost use Rattle.metering.specs.Verdict.{between};
 ghost use Rattle.methodology.specs.Limits.{head_limit};
+ghost use Rattle.tariffs.specs.Rows.{row_fits};
 
 use rates::HEADS;
 use std::array;
 
-/// The filer's own count, and the first figures: a market never needs more of them.
-/// The count is kept beside the table, since it may be more than the table holds, and a call of the law copies the row.
+/// The filer's own count, which may be more than the table holds, and the first figures; past the count they are 0.
 #[derive(Clone, Copy)]
 pub struct Row {
     pub count: usize,
@@ -31,4 +33,28 @@ impl Row {
     {
         self.figures.get(place).copied().unwrap_or(0)
     }
+
+    /// Whether there are as many figures as wanted, each between low and high.
+    pub(crate) fn fits(&self, low: u64, high: u64, wanted: usize) -> bool
+        requires { wanted ≤ head_limit }
+        ensures { result ≡ row_fits low high wanted self.now }
+    {
+        self.count == wanted && all_between(low, high, &self.figures[..wanted])
+    }
+}
+
+/// Whether a figure lies between low and high.
+pub(crate) fn lies_between(low: u64, high: u64, figure: u64) -> bool
+    ensures { result ≡ between low high figure }
+{
+    (low..=high).contains(&figure)
+}
+
+/// Whether each figure lies between low and high.
+fn all_between(low: u64, high: u64, figures: &[u64]) -> bool
+    ensures { result ≡ list_all (between low high) figures.now }
+{
+    figures
+        .iter()
+        .all(|figure| lies_between(low, high, *figure))
 }

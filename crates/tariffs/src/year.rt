@@ -1,11 +1,10 @@
 //! Filing the allowed revenues of a year.
 ghost use Rattle.tariffs.specs.Years.{FilesYear};
 
-use crate::limits::YEARLY_LIMIT;
 use crate::refusal::YearRefused;
 use crate::row::Row;
 use methodology::Shape;
-use rates::{REVENUES, Revenues};
+use rates::{REVENUES, Revenues, YEARLY_LIMIT};
 use std::array;
 
 /// The revenues that the market's companies may collect in the year.

@@ -1,7 +1,7 @@
 use Rattle.std.proofs.Common.{◌≡◌, ℕ, ◌-◌, false, get_or, replicate, None, Option, refl, ◌∙◌, arith}
+use Rattle.metering.specs.Limits.{place_limit, licensee_limit}
 use Rattle.methodology.specs.Limits.{head_limit}
 use Rattle.accounts.specs.declared.delivery.Delivery.{Delivery}
-use Rattle.accounts.specs.Limits.{place_limit, licensee_limit}
 use Rattle.accounts.specs.Counts.{count_true, count_some}
 use Rattle.accounts.proofs.Sums.{sum_same, sum_zero}
 use Rattle.accounts.proofs.Counting.{all_alike}

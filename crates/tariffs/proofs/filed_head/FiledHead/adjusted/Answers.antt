@@ -2,12 +2,11 @@ use Rattle.std.proofs.Common.{◌≡◌, ◌≤◌, nat_abs, Ok, sym, ap, ◌∙
 use Rattle.std.proofs.lemmas.Int.{ints}
 use Rattle.arith.specs.Division.{floor}
 use Rattle.arith.specs.Interest.{adjustment_of}
-use Rattle.arith.proofs.Growth.{at_most_double_signed}
 use Rattle.arith.specs.Scaling.{more_by_signed}
 use Rattle.tariffs.specs.Publishing.{forecast, per_unit, adjustment_at}
 use Rattle.tariffs.proofs.Adjusting.{adjusted_parts}
 use Rattle.tariffs.proofs.Kept.{limits_of}
-use Rattle.tariffs.proofs.rating.FiledHead.adjusted.Goals as goal
+use Rattle.tariffs.proofs.filed_head.FiledHead.adjusted.Goals as goal
 
 pub overflow_cast-interest : goal.overflow_cast-interest
 overflow_cast-interest c =
@@ -29,9 +28,9 @@ returns c =
     let quantity : q ≡ forecast filed.shape filed.filing c.args.self.now.number = c.forecast.ensures.value in
     let small : SFits w64 p.0 = search rules in
     let bound : nat_abs p.0 ≤ 9223372036854775808 = omega (arith, ints) in
-    let grown = at_most_double_signed (floor d q) interest limits.interest in
+    let grown = (rw c.unwrap.ensures at c.adjustment.ensures.size) limits.interest in
     record {
       each = parts.0 ∙ ap (floor d) quantity;
       whole = parts.1 ∙ ap (λ n. more_by_signed interest (floor d n)) quantity;
-      size = omega (arith, ap nat_abs parts.0, ap nat_abs parts.1, bound);
+      size = omega (arith, grown, bound);
     }

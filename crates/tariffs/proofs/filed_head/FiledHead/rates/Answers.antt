@@ -1,8 +1,8 @@
 use Rattle.std.proofs.Common.{refl, ◌∙◌, arith, rules}
 use Rattle.std.proofs.lemmas.Bool.{false_from_ne_true}
 use Rattle.tariffs.proofs.Adjusting.{Tells, figures_tell, rates_kept, tested, told_by, fits_unsigned}
-use Rattle.tariffs.proofs.rating.FiledHead.rates.Goals as goal
-use Rattle.tariffs.proofs.rating.FiledHead.rates.Goals.{After-try_from, in_default-via-in-Ok+else-passes, in_default-via-in_default}
+use Rattle.tariffs.proofs.filed_head.FiledHead.rates.Goals as goal
+use Rattle.tariffs.proofs.filed_head.FiledHead.rates.Goals.{After-try_from, in_default-via-in-Ok+else-passes, in_default-via-in_default}
 
 tells : (c : goal.After-try_from) → Tells c.args.self.now.filed.now.shape c.args.self.now.filed.now.filing c.args.differences c.args.self.now.number c.base_rate-base.result c.from.result c.adjusted-each.result.0 c.adjusted-each.result.1
 tells c =

@@ -1,7 +1,7 @@
 use Rattle.std.proofs.Common.{refl}
 use Rattle.tariffs.specs.Publishing.{forecast}
 use Rattle.tariffs.proofs.Kept.{limits_of}
-use Rattle.tariffs.proofs.rating.FiledHead.forecast.Goals as goal
+use Rattle.tariffs.proofs.filed_head.FiledHead.forecast.Goals as goal
 
 pub returns-then-is_demand : goal.returns-then-is_demand
 unfolding forecast

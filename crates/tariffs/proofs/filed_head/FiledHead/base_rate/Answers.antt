@@ -2,7 +2,7 @@ use Rattle.std.proofs.Common.{◌+◌, ◌-◌, ◌<◌, sym, refl, arith}
 use Rattle.std.proofs.lemmas.Bool.{leb-true}
 use Rattle.tariffs.specs.Publishing.{base_rate}
 use Rattle.tariffs.proofs.Kept.{limits_of}
-use Rattle.tariffs.proofs.rating.FiledHead.base_rate.Goals as goal
+use Rattle.tariffs.proofs.filed_head.FiledHead.base_rate.Goals as goal
 
 pub per_cost-requires : goal.per_cost-requires
 per_cost-requires c =
@@ -20,7 +20,7 @@ returns-then-is_demand c = rw (← c.if-is_demand.ensures.value) (rw (c.per_cost
 pub overflow_cast-result : goal.overflow_cast-result
 overflow_cast-result c =
     let most = c.scale_thousandths.ensures.most 4 c.coefficient.ensures.most in
-    let double = c.scale_ppm-with_losses.ensures.grown.1 (omega (arith, c.factor.ensures.most)) in
+    let double = c.scale_ppm-with_losses.ensures.at_most_double (omega (arith, c.factor.ensures.most)) in
     record { fits = omega (arith, c.generation_energy.ensures.most) }
 
 pub returns : goal.returns
