@@ -1,3 +1,2 @@
-pub mod Placed
 pub mod Shown
 pub mod Calls

@@ -1,11 +1,12 @@
 -- What a house shows.
-use Rattle.std.specs.Prelude.{◌≡◌, List}
+use Rattle.std.specs.Prelude.{◌≡◌, ℕ, List}
 use Rattle.agreements.specs.Meaning.{Meaning}
 use Rattle.banks.specs.declared.bank.Bank.{Ghosts as BankGhosts}
 use Rattle.methodology.specs.Meaning.{Meaning as Market}
 use Rattle.methodology.specs.declared.rules.Methodology.{Ghosts as MarketGhosts}
 use Rattle.methodology.specs.declared.shape.Shape.{Shape}
 use Rattle.ledger.specs.Views.{View}
+use Rattle.ledger.specs.Law.{EveryRun}
 use Rattle.house.specs.declared.house.House.{House}
 
 -- by the meanings of its bank and of its methodology
@@ -18,3 +19,12 @@ pub record Over (shape : Shape) (market : Market) (row : List Meaning) (v : View
   pub shape_is : v.shape ≡ shape
   pub market_is : v.market ≡ market
   pub row_is : v.row ≡ row
+
+module _ {B M : Type 0} {bank : BankGhosts B} {methodology : MarketGhosts M} where
+  -- a house over what this bank and this methodology mean
+  abbrev pub MadeOver : B → M → House B M bank methodology → Type 0
+  MadeOver b m h = Over methodology.shape (methodology.meaning m) (bank.row b) (shows h)
+
+  -- and every list of calls to a house that is made so keeps the law
+  abbrev pub LawOver : B → M → ℕ → House B M bank methodology → Type 0
+  LawOver b m serial _ = EveryRun methodology.shape (methodology.meaning m) (bank.row b) serial

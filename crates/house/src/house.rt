@@ -1,7 +1,8 @@
 //! A house, and the eight calls that may be made of it.
 ghost use Rattle.std.specs.Prelude.{◌≤◌, length};
 ghost use Rattle.metering.specs.Limits.{place_limit};
-ghost use Rattle.house.specs.Placed.{Placed};
+ghost use Rattle.methodology.specs.Heads.{heads_of};
+ghost use Rattle.methodology.specs.Limits.{head_limit};
 
 use accounts::{Books, Month, Sheet};
 use agreements::Dues;
@@ -14,30 +15,31 @@ use orders::{Paid, PayOrder, Returned, Till};
 use rates::{Rates, Revenues};
 use tariffs::{Filing, Row, file_year, publish};
 
-/// The stations' agreements, the market's methodology, and all that is kept in plain numbers. It stands at one place of the
-/// year at a time: a year is filed, then a tariff, then six months are closed, then a tariff and six months again.
+/// Settles the months of a market with a single buyer. A call answers at once, and one that is refused changes nothing.
 #[derive(Drop)]
 pub struct House<B: Bank, M: Methodology> {
+    /// The stations' agreements.
     pub(crate) bank: B,
+    /// The market's own rules.
     pub(crate) methodology: M,
+    /// All that is kept in plain numbers.
     pub(crate) ledger: Ledger,
     ghost few: { length (B.Bank.row bank) ≤ place_limit },
-    ghost placed: { Placed M.Methodology.shape (M.Methodology.meaning methodology) },
+    ghost headed: { heads_of M.Methodology.shape ≤ head_limit },
 }
 
 impl<B: Bank, M: Methodology> House<B, M> {
     ghost use Rattle.std.specs.Prelude.{◌≡◌};
     ghost use Rattle.ledger.specs.Calls.{NewHouse};
-    ghost use Rattle.ledger.specs.Law.{EveryRun};
-    ghost use Rattle.house.specs.Shown.{shows, Over};
+    ghost use Rattle.house.specs.Shown.{shows, MadeOver, LawOver};
     ghost use Rattle.house.specs.Calls.{Year, Tariff, Meter, Deliver, Close, Draw, Release, Hold};
 
-    /// A house over a bank and a methodology. Its serial number should be one that no other house bears.
-    /// It stands before a year, with amounts 0, and the bank's standings are as they were.
+    /// A house that waits for its first year to be filed. No money has moved in it, and the agreements stand as the bank came.
+    /// Its pay orders bear the serial number, which should be one that no other house has.
     pub fn new(bank: B, methodology: M, serial: u64) -> House<B, M>
         ensures made { NewHouse serial (shows result) }
-        ensures over { Over M.Methodology.shape (M.Methodology.meaning methodology) (B.Bank.row bank) (shows result) }
-        ensures law { EveryRun M.Methodology.shape (M.Methodology.meaning methodology) (B.Bank.row bank) serial }
+        ensures over { MadeOver bank methodology result }
+        ensures law { LawOver bank methodology serial result }
     {
         let ledger = Ledger {
             stage: Stage::BeforeYear,
@@ -54,14 +56,15 @@ impl<B: Bank, M: Methodology> House<B, M> {
         }
     }
 
-    /// All that the house keeps in plain numbers.
+    /// What the house keeps, to be read.
     pub fn ledger(&self) -> &Ledger
         ensures { result.now ≡ self.now.ledger }
     {
         &self.ledger
     }
 
-    /// Files the allowed revenues of a year, in cents.
+    /// Files the allowed revenues of a year, in cents. Refused with 12 where another call is due, and with 13 where their count
+    /// or one of them does not fit.
     pub fn year(&mut self, filed: &Row) -> Result<(), Refusal>
         ensures { Year self.old filed.now result self.new }
     {
@@ -74,7 +77,8 @@ impl<B: Bank, M: Methodology> House<B, M> {
         Ok(())
     }
 
-    /// Publishes a tariff, and opens the first month of its half-year.
+    /// Publishes a tariff, and opens the first month of its half-year. Refused with 12 where another call is due, with 14 where
+    /// a figure does not fit, and with 15 where a rate is out of its range.
     pub fn tariff(&mut self, filing: &Filing) -> Result<(), Refusal>
         ensures { Tariff self.old filing.now result self.new }
     {
@@ -89,8 +93,10 @@ impl<B: Bank, M: Methodology> House<B, M> {
         Ok(())
     }
 
-    /// Takes a station's reading: asks the bank, books it, and adds the dues to the place's standing money. Answers the dues,
-    /// in grains.
+    /// Takes a station's reading, and answers what the station earns by it, in grains: its agreement moves on, the month counts
+    /// the reading, and the grains stand at the place. Refused with 6 for a licensee's reading, with 7 where no month is open,
+    /// with 8 where the bank has no such place, with 9 where it was read this month, with 10 for a fault of its agreement, and
+    /// with 11 where its money would pass the limit.
     pub fn meter(&mut self, reading: &Reading) -> Result<u64, Refusal>
         ensures { Meter self.old reading.now result self.new }
     {
@@ -119,7 +125,8 @@ impl<B: Bank, M: Methodology> House<B, M> {
         Ok(worth as u64)
     }
 
-    /// Takes a licensee's reading.
+    /// Takes a licensee's reading: what it took from the market this month. Refused with 6 for a station's reading, with 7 where
+    /// no month is open, and with 9 where the licensee delivered this month.
     pub fn deliver(&mut self, reading: &Reading) -> Result<(), Refusal>
         ensures { Deliver self.old reading.now result self.new }
     {
@@ -140,7 +147,8 @@ impl<B: Bank, M: Methodology> House<B, M> {
     }
 
     /// Closes the month and fills in the caller's sheet; a refusal leaves it. The caller states how many readings and
-    /// deliveries the month must have.
+    /// deliveries the month must have. Refused with 7 where no month is open, with 16 where a count is not the month's, and
+    /// with 17 to 20 where a head has no quantity, no fitting supply, a rate over its limit or a balance past it.
     pub fn close(
         &mut self,
         readings: usize,
@@ -166,7 +174,8 @@ impl<B: Bank, M: Methodology> House<B, M> {
         Ok(())
     }
 
-    /// Draws an order on all whole cents that stand at a place.
+    /// Draws an order on all whole cents that stand at a place. Refused with 8 where the bank has no such place, and with 21
+    /// where less than a cent stands there.
     pub fn draw(&mut self, place: u8) -> Result<PayOrder, Refusal>
         ensures { Draw self.old place result self.new }
     {
@@ -176,14 +185,15 @@ impl<B: Bank, M: Methodology> House<B, M> {
         Ok(self.ledger.till.draw(place)?)
     }
 
-    /// Pays an order. One that is not the house's own comes back.
+    /// Pays an order. One that is not the house's own comes back, which is refusal 22.
     pub fn release(&mut self, order: PayOrder) -> Result<Paid, Returned>
         ensures { Release self.old order result self.new }
     {
         self.ledger.till.release(order)
     }
 
-    /// Puts an order's cents back to the money standing at its place. One that is not the house's own comes back.
+    /// Puts an order's cents back to the money that stands at its place. One that is not the house's own comes back, which is
+    /// refusal 22.
     pub fn hold(&mut self, order: PayOrder) -> Result<(), Returned>
         ensures { Hold self.old order result self.new }
     {

@@ -1,8 +1,7 @@
-//! What a pay desk does with orders. Whoever has one in hand must see it released or held, and so each of these functions
-//! ends with the order taken in by a house, or hands it back.
+//! What a pay desk does with orders. Whoever has one in hand must see it released or held: each of these functions ends with
+//! the order taken in by a house, or hands it back.
 ghost use Rattle.std.specs.Prelude.{◌≡◌};
-ghost use Rattle.house.specs.Shown.{shows};
-ghost use Rattle.pay_desk.specs.Desk.{PutsOff, Presents, Settles, Elsewhere};
+ghost use Rattle.pay_desk.specs.Houses.{PutsOff, Presents, Settles, Elsewhere};
 
 use banks::Bank;
 use house::House;
@@ -36,7 +35,7 @@ pub fn put_off<B: Bank, M: Methodology>(
     house: &mut House<B, M>,
     order: PayOrder,
 ) -> Result<Settled, Returned>
-    ensures { PutsOff (shows house.old) order result (shows house.new) }
+    ensures { PutsOff house.old order result house.new }
 {
     let paid = paid_by(&order);
     house.hold(order)?;
@@ -49,7 +48,7 @@ pub fn present<B: Bank, M: Methodology>(
     owner: &mut House<B, M>,
     order: PayOrder,
 ) -> Result<Settled, Returned>
-    ensures { Presents (shows desk.old) (shows owner.old) order result (shows desk.new) (shows owner.new) }
+    ensures { Presents desk.old owner.old order result desk.new owner.new }
 {
     let paid = paid_by(&order);
     match desk.release(order) {
@@ -69,7 +68,7 @@ pub fn settle_one<B: Bank, M: Methodology>(
     place: u8,
     most: u64,
 ) -> Result<Settled, Refusal>
-    ensures { Settles most (shows house.old) place result (shows house.new) }
+    ensures { Settles most house.old place result house.new }
 {
     let order = house.draw(place)?;
     let paid = paid_by(&order);
@@ -88,7 +87,7 @@ pub fn settle_elsewhere<B: Bank, M: Methodology>(
     owner: &mut House<B, M>,
     place: u8,
 ) -> Result<Settled, Refusal>
-    ensures { Elsewhere (shows desk.old) (shows owner.old) place result (shows desk.new) (shows owner.new) }
+    ensures { Elsewhere desk.old owner.old place result desk.new owner.new }
 {
     let order = owner.draw(place)?;
     Ok(present(desk, owner, order).unwrap())

@@ -7,11 +7,11 @@ use ledger::Refusal;
 use methodology::ThreeIntervals;
 use worked_figures::{agreement, sent, tariff, year};
 
-/// No plainer: `worked_cases` has this market too, but stands above crates that this program has no use for.
+/// A house over this market.
 pub type Market = House<One<TwoPart>, ThreeIntervals>;
 
 /// Files a year and a tariff, and takes the reading: 5,500,000 grains are due.
-fn meter_first(house: &mut Market) -> Result<(), Refusal> {
+fn meter_first(house: &mut Market) -> Result<u64, Refusal> {
     house.year(&year())?;
     house.tariff(&tariff())?;
     house.meter(&sent())
