@@ -1,4 +1,4 @@
--- What making an agreement answers.
+-- What the making of an agreement answers.
 use Rattle.std.specs.Prelude.{◌≡◌, Bool, true, false, Ok, Err, Result}
 use Rattle.agreements.specs.declared.fault.OverLimit.{OverLimit}
 use Rattle.agreements.specs.Meaning.{Meaning}

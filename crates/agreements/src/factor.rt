@@ -14,7 +14,7 @@ pub struct Factor {
 }
 
 impl Factor {
-    /// The factor that a number counts as: itself, or 1,000,000, which leaves dues as they are, where it is no factor.
+    /// The factor that a number counts as: itself, or 1,000,000 where it is no factor. That leaves dues as they are.
     pub fn new(ppm: u64) -> Factor
         ensures { result.ppm ≡ counted ppm }
     {
@@ -25,7 +25,7 @@ impl Factor {
         }
     }
 
-    /// A due under the factor, rounded down, or the greatest number where it is more: that is past the ceiling all the same.
+    /// A due under the factor, rounded down, or the greatest number where it would be more, which passes the ceiling too.
     pub(crate) fn scale(self, due: u64) -> u64
         ensures { result ≡ capped (scaled self.ppm due) }
     {

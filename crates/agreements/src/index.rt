@@ -32,7 +32,8 @@ impl<A> Index<A> {
 impl<A: Agreement> Agreement for Index<A> {
     ghost meaning = { λ s. indexed s.factor.ppm (A.Agreement.meaning s.below) };
 
-    ghost lawful = { λ a r. lawful_indexed a.factor.ppm (A.Agreement.meaning a.below) r (A.Agreement.lawful a.below r) };
+    ghost lawful = { λ a r.
+        lawful_indexed a.factor.ppm (A.Agreement.meaning a.below) r (A.Agreement.lawful a.below r) };
 
     fn layer(&self) -> u8 {
         layer_above(self.below.layer())

@@ -8,7 +8,7 @@ pub const CONTRACTED_LIMIT: u64 = DEMAND_LIMIT as u64;
 /// Most a quota may be, kWh.
 pub const QUOTA_LIMIT: u64 = 1_000_000_000_000_000;
 
-/// The ceiling of a reading's capacity due and of its block sum, in grains: a month of 32 places stays in 64 bits.
+/// The ceiling of a reading's capacity due and of its block sum, in grains. A month of 32 places stays in 64 bits.
 pub const DUE_LIMIT: u64 = 100_000_000_000_000_000;
 
 /// The greatest factor of an index layer, in millionths: four times.

@@ -1,6 +1,6 @@
 //! The amounts that can be split.
 ghost use Rattle.std.specs.Prelude.{◌≡◌, ℕ, ◌/◌, ◌%◌, ◌<◌};
-ghost use Rattle.arith.specs.Division.{Split};
+ghost use Rattle.arith.specs.Division.{IsSplit};
 ghost use Rattle.arith.specs.lemmas.Splits.{parts_split, split_parts};
 
 /// A number of cents or grains, of 64 or of 128 bits.
@@ -14,9 +14,11 @@ pub trait Amount: Copy {
         requires { 0 < quantity }
         ensures { result ≡ parts self quantity };
 
-    ghost splits: { (amount : Self) (quantity : ℕ) → 0 < quantity → Split 1 (number amount) quantity (number (parts amount quantity).0) (parts amount quantity).1 };
+    ghost splits: { (amount : Self) (quantity : ℕ) →
+        0 < quantity → IsSplit number amount quantity (parts amount quantity) };
 
-    ghost only: { (amount rate : Self) (quantity carry : ℕ) → Split 1 (number amount) quantity (number rate) carry → parts amount quantity ≡ (rate, carry) };
+    ghost only: { (amount rate : Self) (quantity carry : ℕ) →
+        IsSplit number amount quantity (rate, carry) → parts amount quantity ≡ (rate, carry) };
 }
 
 impl Amount for u64 {

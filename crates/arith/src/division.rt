@@ -1,16 +1,17 @@
 //! Division with its rest, and division of signed numbers towards minus infinity.
-ghost use Rattle.std.specs.Prelude.{◌≡◌, ℕ, ℤ, Ok, Err};
-ghost use Rattle.arith.specs.Division.{Split, split_by, Floor, floor_of, AroundZero, AtTheLimits};
+ghost use Rattle.std.specs.Prelude.{◌≡◌, ℕ, ℤ, Ok};
+ghost use Rattle.arith.specs.Division.{IsSplit, SplitOrNone, split_by, Floor, FloorOrNone, floor_of, AroundZero, AtTheLimits};
 
 use crate::amount::Amount;
 use crate::quantity::NoQuantity;
 
-/// An amount over a quantity: the rate that it gives, and what is carried because no whole step of the rate is left in it.
-/// Rates go in steps of 1. `split_by` is `split_of` at an amount of 64 bits and at one of 128.
+/// An amount over a quantity: the rate that it gives, a whole number, and the carry, which is too little for one more.
+/// It refuses a quantity of 0 (17).
 pub fn split<A: Amount>(amount: A, quantity: u64) -> Result<(A, u64), NoQuantity>
     ensures value { result ≡ split_by A.parts amount quantity }
-    ensures cases { elim result [ Ok p ↦ Split 1 (A.number amount) quantity (A.number p.0) p.1 | Err e ↦ quantity ≡ 0 ] }
-    ensures only { (rate : A) (carry : ℕ) → Split 1 (A.number amount) quantity (A.number rate) carry → result ≡ Ok (rate, carry) }
+    ensures cases { SplitOrNone A.number amount quantity result }
+    ensures only { (rate : A) (carry : ℕ) →
+        IsSplit A.number amount quantity (rate, carry) → result ≡ Ok (rate, carry) }
 {
     if quantity == 0 {
         return Err(NoQuantity);
@@ -18,11 +19,11 @@ pub fn split<A: Amount>(amount: A, quantity: u64) -> Result<(A, u64), NoQuantity
     Ok(amount.div_rem(quantity))
 }
 
-/// n / d, rounded towards minus infinity.
+/// n / d, rounded towards minus infinity. It refuses a divisor of 0 (17).
 #[tactic(auto, using(crate::proofs::Floors::around_zero))]
 pub fn floor_div(n: i64, d: u64) -> Result<i64, NoQuantity>
     ensures value { result ≡ floor_of n d }
-    ensures cases { elim result [ Ok q ↦ Floor n d q | Err e ↦ d ≡ 0 ] }
+    ensures cases { FloorOrNone n d result }
     ensures only { (q : ℤ) → Floor n d q → result ≡ Ok q }
     ensures laws { (AroundZero) × (AtTheLimits) }
 {

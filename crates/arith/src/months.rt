@@ -1,18 +1,19 @@
 //! A yearly amount in twelve monthly shares.
 ghost use Rattle.std.specs.Prelude.{◌≡◌, ℕ, ◌+◌, ◌*◌, ◌/◌, ◌<◌, ◌≤◌};
-ghost use Rattle.arith.specs.Months.{months_of_year, share, shares_to};
+ghost use Rattle.arith.specs.Months.{months_of_year, share, shares_to, Even};
 
 use crate::division::split;
 
 /// Months in a year.
 pub const MONTHS: u64 = 12;
 
-/// The share of a month, counted from 1, of a yearly amount: what the year so far has earned, less what it had a month before.
+/// The share that a month, counted from 1, has of a yearly amount: what the year has earned by its end, less what it had a month
+/// before.
 /// Month 0 has none, and the months of a second year go on as those of the first.
 pub fn month_share(yearly: u64, month: u8) -> u64
     ensures value { result ≡ share yearly month }
     ensures whole { shares_to yearly months_of_year ≡ yearly }
-    ensures even { 1 ≤ month → (k : ℕ) → 1 ≤ k → (result ≤ share yearly k + 1) × (share yearly k ≤ result + 1) }
+    ensures even { 1 ≤ month → Even yearly result }
 {
     if month == 0 {
         return 0;

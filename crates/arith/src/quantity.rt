@@ -1,6 +1,7 @@
-//! The one thing that a division refuses: nothing to divide by.
+//! Why a division gives nothing.
 ghost use Rattle.std.specs.Prelude.{◌≡◌};
 
+/// The refusal to divide by a quantity of 0.
 #[derive(Clone, Copy, PartialEq, Eq, Debug)]
 pub struct NoQuantity;
 

@@ -1,4 +1,4 @@
-//! Scaling by millionths and thousandths. The results are wider than what is scaled, so that none can wrap.
+//! Scaling by millionths and thousandths, to numbers wide enough for any result.
 ghost use Rattle.std.specs.Prelude.{◌≡◌, ℕ, ◌+◌, ◌*◌, ◌≤◌, pos, ◌*ℤ◌, unsigned_abs};
 ghost use Rattle.arith.specs.Division.{Floor};
 ghost use Rattle.arith.specs.Scaling.{whole_ppm, whole_thousandths, millionths, more_by, more_by_signed, thousandths, Rounded};

@@ -10,7 +10,7 @@ use agreements::Dues;
 use metering::Reading;
 
 /// A bank holds agreements at places, which count from 1 to 32 at most. It answers at a place as the agreement there would,
-/// into the caller's table, which a refusal leaves as it was. A place that it does not have is refused (8), and so is a reading
+/// into the caller's table, which a refusal leaves as it was. It refuses a place that it does not have (8) and a reading
 /// that the agreement there does not admit (10).
 pub trait Bank {
     /// What the agreement at each place means, place 1 first.
@@ -23,12 +23,14 @@ pub trait Bank {
     /// Asks the agreement at the place.
     fn ask_at(&self, place: u8, reading: &Reading, table: &mut Dues) -> Result<(), BankRefusal>
         ensures answered { result ≡ outcome_at (at_place (row self.now) place) reading.now }
-        ensures wrote { table.new ≡ written_at (at_place (row self.now) place) reading.now table.old };
+        ensures wrote { table.new
+            ≡ written_at (at_place (row self.now) place) reading.now table.old };
 
-    /// Books at the place: the same answer, and that agreement's standing moves. Every other standing is as it was.
+    /// Books at the place: the same answer, and that agreement's standing moves. Every other stays as it is.
     fn book_at(&mut self, place: u8, reading: &Reading, table: &mut Dues) -> Result<(), BankRefusal>
         ensures answered { result ≡ outcome_at (at_place (row self.old) place) reading.now }
-        ensures wrote { table.new ≡ written_at (at_place (row self.old) place) reading.now table.old }
+        ensures wrote { table.new
+            ≡ written_at (at_place (row self.old) place) reading.now table.old }
         ensures moves { Booked (row self.old) place reading.now (row self.new) };
 
     ghost few: { (b : Self) → length (row b) ≤ place_limit };

@@ -10,8 +10,8 @@ use crate::refusal::BankRefusal;
 use agreements::Dues;
 use metering::{PLACES, Reading};
 
-/// Two banks side by side. The places of the left one come first, and those of the right one count on from there;
-/// what would be past the 32nd place is not there.
+/// Two banks side by side. The places of the left one come first, and those of the right one count on from them.
+/// There is none past the 32nd.
 #[derive(Drop)]
 pub struct Beside<L, R> {
     left: L,

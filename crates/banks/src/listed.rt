@@ -63,9 +63,11 @@ impl<T: Agreement> Bank for Listed<T> {
 
     ghost row = { λ s. map T.Agreement.meaning s.list.items };
 
-    ghost few = { λ b. omega (arith, length-map b.list.items T.Agreement.meaning, b.list.ok.0, b.few) };
+    ghost few = { λ b.
+        omega (arith, length-map b.list.items T.Agreement.meaning, b.list.ok.0, b.few) };
 
-    ghost lawful = { λ b k r. lawful_row T.Agreement.meaning b.list.items k r (λ x. T.Agreement.lawful x r) };
+    ghost lawful = { λ b k r.
+        lawful_row T.Agreement.meaning b.list.items k r (λ x. T.Agreement.lawful x r) };
 
     fn places(&self) -> u8 {
         // There are 32 at most.

@@ -36,7 +36,7 @@ impl Head {
         }
     }
 
-    /// The letter that its name begins with: G; T, B and S for the three revenues that a market may have; E.
+    /// The letter that its name begins with: G; T, B and S for the revenues, of which a market has three at most; E.
     pub fn letter(self) -> &'static str
         ensures { result.now ≡ letter self }
     {
@@ -50,7 +50,7 @@ impl Head {
         }
     }
 
-    /// The number that its name has behind the letter: an interval's. The letters T, B and S tell the revenues apart.
+    /// The number that its name has behind the letter. Only intervals have one, since they share a letter.
     pub fn numeral(self) -> Option<usize>
         ensures { result ≡ numeral self }
     {

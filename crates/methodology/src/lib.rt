@@ -1,4 +1,4 @@
-//! Methodologies: a market's own rules, which say what heads it has, in which interval a block of its day is, and what supply it allows.
+//! Methodologies: a market's own rules on its intervals and on allowed supply, and the heads that it bills by.
 #![tactic(auto)]
 
 pub mod head;

@@ -1,11 +1,11 @@
-//! The shape of a market: how many allowed revenues and intervals it has, and the heads that come of them.
+//! The shape of a market: its counts of revenues and of intervals, and the heads that come of them.
 ghost use Rattle.std.specs.Prelude.{◌≡◌, ◌+◌, ◌≤◌, nat_le};
 ghost use Rattle.methodology.specs.Limits.{revenue_limit, head_limit};
 
 use crate::head::Head;
 
-/// An allowed revenue is a yearly sum that the regulator lets a company collect. An interval is a part of the day with a rate of its own.
-/// The heads are counted from 1: generation, then the revenues, then the intervals.
+/// An allowed revenue is a yearly sum that the regulator lets a company collect. An interval is a part of the day with a
+/// rate of its own. Heads are counted from 1: generation, then the revenues, then the intervals.
 #[derive(Clone, Copy)]
 pub struct Shape {
     pub revenues: usize,

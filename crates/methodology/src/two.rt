@@ -12,7 +12,8 @@ const PEAK: usize = 1;
 
 const OFF_PEAK: usize = 2;
 
-/// Peak and off-peak. Its revenues are those for transmission, for the single buyer, and for the system and market operator.
+/// Peak and off-peak. Its revenues are those for transmission, for the single buyer, and for the system and market
+/// operator.
 #[derive(Clone, Copy)]
 pub struct TwoIntervals;
 
@@ -33,7 +34,8 @@ impl Methodology for TwoIntervals {
 
     ghost placed = { Prim.search rules };
 
-    ghost supplied = { λ m sent delivered factor few filed ratio. (no_less delivered factor, at_most_double delivered factor filed) };
+    ghost supplied = { λ m sent delivered factor few filed ratio.
+        (no_less delivered factor, at_most_double delivered factor filed) };
 
     /// Block 34 begins at 17:00, block 42 at 21:00.
     fn interval_of(&self, block: usize) -> usize

@@ -1,6 +1,5 @@
 //! What may stand at the bottom of a station.
-ghost use Rattle.agreements.specs.Making.{Makes};
-ghost use Rattle.stations.specs.Figures.{figures_fit, figured};
+ghost use Rattle.stations.specs.Figures.{MakesBase};
 ghost use Rattle.stations.specs.Layers.{base_meaning};
 ghost use Rattle.stations.specs.lemmas.Layering.{base_lawful};
 
@@ -19,7 +18,7 @@ pub enum Base {
 impl TryFrom<BaseFigures> for Base {
     type Error = OverLimit;
 
-    ghost try_from_gives = { λ figures answer. Makes (figures_fit figures) base_meaning (figured figures) answer };
+    ghost try_from_gives = { MakesBase };
 
     fn try_from(figures: BaseFigures) -> Result<Base, OverLimit> {
         match figures {

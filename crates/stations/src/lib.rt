@@ -1,4 +1,4 @@
-//! Stations: agreements and a bank that are made while a program runs, from figures that an operator files.
+//! Stations: agreements, and banks of them, made while a program runs from the figures that an operator files.
 #![tactic(auto)]
 
 pub mod base;

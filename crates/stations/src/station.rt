@@ -1,7 +1,6 @@
 //! A station: an agreement under any number of index layers, made while the program runs.
-ghost use Rattle.agreements.specs.Making.{Makes};
-ghost use Rattle.stations.specs.Figures.{figures_fit, figured};
-ghost use Rattle.stations.specs.Layers.{layered, station_meaning, base_meaning};
+ghost use Rattle.stations.specs.Figures.{MakesStation};
+ghost use Rattle.stations.specs.Layers.{station_meaning, base_meaning};
 ghost use Rattle.stations.specs.lemmas.Layering.{base_lawful, lawful_layered};
 
 use crate::base::Base;
@@ -22,9 +21,10 @@ pub struct Station {
 pub type Stations = Listed<Station>;
 
 impl Station {
-    /// A station with these figures at the bottom, under a layer for each factor. It refuses a figure over its limit (2).
+    /// A station with these figures at the bottom, under a layer for each factor.
+    /// It refuses a figure over its limit (2).
     pub fn new(figures: BaseFigures, factors: Vec<u64>) -> Result<Station, OverLimit>
-        ensures { Makes (figures_fit figures) station_meaning (layered factors.items (figured figures)) result }
+        ensures { MakesStation figures factors.items result }
     {
         Ok(Station {
             base: Base::try_from(figures)?,
@@ -37,7 +37,8 @@ impl Station {
 impl Agreement for Station {
     ghost meaning = { station_meaning };
 
-    ghost lawful = { λ s r. lawful_layered s.factors.items (base_meaning s.base) r (base_lawful s.base r) };
+    ghost lawful = { λ s r.
+        lawful_layered s.factors.items (base_meaning s.base) r (base_lawful s.base r) };
 
     fn layer(&self) -> u8 {
         u8::try_from(self.factors.len()).unwrap_or(LAYER_LIMIT)

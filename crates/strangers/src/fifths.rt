@@ -41,8 +41,8 @@ impl Methodology for Fifths {
     }
 }
 
-/// The number of the head that a block's energy goes to, by the code that serves any methodology: 2 for the first fifth of the
-/// day, 6 for the last.
+/// The number of the head that a block's energy goes to, by the code that serves any methodology: 2 in the first fifth of
+/// the day, 6 in the last.
 pub fn head_of_fifth(block: usize) -> usize
     ensures { block < block_count → result ≡ 2 + block * 5 / block_count }
 {

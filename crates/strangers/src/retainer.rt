@@ -1,5 +1,5 @@
 //! The retainer: a fee for each of so many readings, whatever they show.
-ghost use Rattle.std.specs.Prelude.{◌≤◌, nat_le};
+ghost use Rattle.std.specs.Prelude.{◌≤◌};
 ghost use Rattle.std.proofs.Common.{rules, arith};
 ghost use Rattle.agreements.specs.Limits.{due_limit};
 
@@ -16,12 +16,12 @@ pub struct Retainer {
 }
 
 impl Retainer {
-    ghost use Rattle.agreements.specs.Making.{Makes};
-    ghost use Rattle.strangers.specs.Retainers.{retainer_at, meaning_of_retainer};
+    ghost use Rattle.strangers.specs.Retainers.{MakesRetainer};
 
-    /// A retainer of this fee in grains, for so many readings. It refuses a fee over the ceiling of dues (2).
+    /// A retainer of this fee in grains, for so many readings.
+    /// It refuses a fee over the ceiling of dues (2).
     pub fn new(fee: u64, readings: u64) -> Result<Retainer, OverLimit>
-        ensures { Makes (nat_le fee due_limit) meaning_of_retainer (retainer_at fee readings) result }
+        ensures { MakesRetainer fee readings result }
     {
         if fee > DUE_LIMIT {
             return Err(OverLimit);

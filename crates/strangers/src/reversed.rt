@@ -36,7 +36,8 @@ impl<B: Bank> Bank for Reversed<B> {
 
     ghost few = { λ b. omega (arith, length-reverse (B.Bank.row b.bank), B.Bank.few b.bank) };
 
-    ghost lawful = { λ b k r. lawful_turned (B.Bank.row b.bank) k r (λ j. B.Bank.lawful b.bank j r) };
+    ghost lawful = { λ b k r.
+        lawful_turned (B.Bank.row b.bank) k r (λ j. B.Bank.lawful b.bank j r) };
 
     fn places(&self) -> u8 {
         self.bank.places()
