@@ -2,7 +2,7 @@
 use Rattle.std.specs.Prelude.{◌≡◌, ℕ, Bool, cond, ◌&&◌, List, [], ◌∷◌, ◌++◌, map, length, Some, None, Option, Ok, Err, Result, codes, ◌==◌, nat_lt}
 use Rattle.std.specs.Str.{bytes_eq}
 use Rattle.agreements.specs.Meaning.{Meaning}
-use Rattle.banks.specs.Limits.{place_limit}
+use Rattle.metering.specs.Limits.{place_limit}
 use Rattle.stations.specs.Layers.{station_meaning}
 use Rattle.journal.specs.declared.draft.JournalDraft.{JournalDraft}
 use Rattle.journal.specs.declared.entry.Entry.{Entry}

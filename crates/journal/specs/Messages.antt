@@ -2,8 +2,9 @@
 use Rattle.std.specs.Prelude.{ℕ, cond, List, ◌++◌, codes, decimal, ◌==◌}
 use Rattle.journal.specs.declared.expected.Expected.{Expected}
 use Rattle.journal.specs.declared.expected.Expected.TheVariants.{MarketLine, StationOrCall, AnyCall, Agreement, Field, Count, Most, FileName, End, TwoPartLimits, QuotaLimits, NoStation}
-use Rattle.agreements.specs.Limits.{contracted_limit, capacity_price_limit, energy_price_limit, quota_limit}
-use Rattle.banks.specs.Limits.{place_limit}
+use Rattle.arith.specs.Money.{demand_rate_limit, energy_rate_limit}
+use Rattle.agreements.specs.Limits.{contracted_limit, quota_limit}
+use Rattle.metering.specs.Limits.{place_limit}
 use Rattle.journal.specs.Names.{name_text}
 
 abbrev pub figures_text : ℕ → List ℕ
@@ -21,7 +22,7 @@ expected_text FileName = codes "expected a file name"
 expected_text End = codes "expected the end of the line"
 expected_text TwoPartLimits =
     codes "a two-part agreement has 'contracted' at most "
-    ++ (decimal contracted_limit ++ (codes ", 'capacity' at most " ++ (decimal capacity_price_limit ++ (codes ", 'energy' at most " ++ decimal energy_price_limit))))
+    ++ (decimal contracted_limit ++ (codes ", 'capacity' at most " ++ (decimal demand_rate_limit ++ (codes ", 'energy' at most " ++ decimal energy_rate_limit))))
 expected_text QuotaLimits =
-    codes "a quota has 'kwh' at most " ++ (decimal quota_limit ++ (codes ", 'first' and 'second' at most " ++ decimal energy_price_limit))
+    codes "a quota has 'kwh' at most " ++ (decimal quota_limit ++ (codes ", 'first' and 'second' at most " ++ decimal energy_rate_limit))
 expected_text NoStation = codes "expected at most " ++ (decimal place_limit ++ codes " stations")

@@ -2,8 +2,8 @@
 use Rattle.std.specs.Prelude.{◌≡◌, ℕ, List, [], ◌∷◌, ◌++◌, Ok, Err, Result, codes, if◌then◌else◌}
 use Rattle.std.specs.Str.{bytes_eq}
 use Rattle.agreements.specs.Meaning.{Meaning}
-use Rattle.stations.specs.declared.figures.Figures.{Figures}
-use Rattle.stations.specs.declared.figures.Figures.TheVariants.{TwoPart, Quota}
+use Rattle.stations.specs.declared.figures.BaseFigures.{BaseFigures}
+use Rattle.stations.specs.declared.figures.BaseFigures.TheVariants.{TwoPart, Quota}
 use Rattle.stations.specs.Figures.{figured, figures_fit}
 use Rattle.stations.specs.Layers.{layered}
 use Rattle.journal.specs.declared.name.Name.{Name}
@@ -30,18 +30,18 @@ three_of first second third ws = do
   Ok ((a, b, c), ws)
 
 -- `contracted 100 capacity 20000 energy 50000`
-unfoldable pub two_part_of : Words → Result (Figures × Words) Expected
+unfoldable pub two_part_of : Words → Result (BaseFigures × Words) Expected
 two_part_of ws = do
   (f, ws) ← three_of Contracted Capacity Energy ws
   Ok (TwoPart f.0 f.1 f.2, ws)
 
 -- `kwh 25 first 60000 second 40000`
-unfoldable pub quota_of : Words → Result (Figures × Words) Expected
+unfoldable pub quota_of : Words → Result (BaseFigures × Words) Expected
 quota_of ws = do
   (f, ws) ← three_of Kwh First Second ws
   Ok (Quota f.0 f.1 f.2, ws)
 
-unfoldable pub figures_of : Words → Result (Figures × Words) Expected
+unfoldable pub figures_of : Words → Result (BaseFigures × Words) Expected
 figures_of [] = Err Agreement
 figures_of (w ∷ ws) =
     if bytes_eq w (codes "two-part") then two_part_of ws
@@ -55,7 +55,7 @@ layers below (w ∷ []) = single Index (w ∷ []) >>= λ _. Ok below
 layers below (w ∷ v ∷ ws) = single Index (w ∷ v ∷ ws) >>= λ (factor, _). layers (below ++ (factor ∷ [])) ws
 
 -- what was expected where an agreement is over its limits
-abbrev pub limits : Figures → Expected
+abbrev pub limits : BaseFigures → Expected
 limits (TwoPart contracted capacity energy) = TwoPartLimits
 limits (Quota left first second) = QuotaLimits
 

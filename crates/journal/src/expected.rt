@@ -3,7 +3,8 @@ ghost use Rattle.std.specs.Prelude.{Some};
 ghost use Rattle.journal.specs.Messages.{expected_text};
 
 use crate::name::Name;
-use agreements::limits::{CAPACITY_PRICE_LIMIT, CONTRACTED_LIMIT, ENERGY_PRICE_LIMIT, QUOTA_LIMIT};
+use agreements::limits::{CONTRACTED_LIMIT, QUOTA_LIMIT};
+use arith::{DEMAND_RATE_LIMIT, ENERGY_RATE_LIMIT};
 use metering::PLACES;
 use std::fmt;
 use words::Counted;
@@ -77,8 +78,8 @@ impl fmt::Display for Expected {
             Expected::End => f.write_str("expected the end of the line"),
             Expected::TwoPartLimits => {
                 let contracted = CONTRACTED_LIMIT;
-                let capacity = CAPACITY_PRICE_LIMIT;
-                let energy = ENERGY_PRICE_LIMIT;
+                let capacity = DEMAND_RATE_LIMIT;
+                let energy = ENERGY_RATE_LIMIT;
                 write!(
                     f,
                     "a two-part agreement has 'contracted' at most {contracted}, 'capacity' at most {capacity}, 'energy' at most {energy}"
@@ -86,7 +87,7 @@ impl fmt::Display for Expected {
             }
             Expected::QuotaLimits => {
                 let quota = QUOTA_LIMIT;
-                let energy = ENERGY_PRICE_LIMIT;
+                let energy = ENERGY_RATE_LIMIT;
                 write!(
                     f,
                     "a quota has 'kwh' at most {quota}, 'first' and 'second' at most {energy}"

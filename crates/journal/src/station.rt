@@ -9,7 +9,7 @@ use crate::expected::Expected;
 use crate::field::single;
 use crate::name::Name;
 use crate::unread::UnreadLine;
-use stations::{Figures, Station};
+use stations::{BaseFigures, Station};
 use std::alloc::Global;
 use words::Words;
 
@@ -31,7 +31,7 @@ fn three(
 
 /// Takes the kind of the agreement and its figures.
 #[tactic(auto, unfolding(crate::specs::Places::figures_of, crate::specs::Places::two_part_of, crate::specs::Places::quota_of))]
-fn filed(words: &mut Words) -> Result<Figures, Expected>
+fn filed(words: &mut Words) -> Result<BaseFigures, Expected>
     ensures { Takes (figures_of (left words.old)) result (left words.new) }
 {
     let Some(kind) = words.next() else {
@@ -45,7 +45,7 @@ fn filed(words: &mut Words) -> Result<Figures, Expected>
                 Name::Capacity,
                 Name::Energy,
             )?;
-            Ok(Figures::TwoPart {
+            Ok(BaseFigures::TwoPart {
                 contracted,
                 capacity,
                 energy,
@@ -53,7 +53,7 @@ fn filed(words: &mut Words) -> Result<Figures, Expected>
         }
         b"quota" => {
             let (quota, first, second) = three(words, Name::Kwh, Name::First, Name::Second)?;
-            Ok(Figures::Quota {
+            Ok(BaseFigures::Quota {
                 quota,
                 first,
                 second,
@@ -79,12 +79,12 @@ fn layers(heap: Global, mut words: Words) -> Result<Vec<u64>, UnreadLine>
 }
 
 /// What was expected where an agreement is over its limits.
-fn limits(figures: Figures) -> Expected
+fn limits(figures: BaseFigures) -> Expected
     ensures { result ≡ limits figures }
 {
     match figures {
-        Figures::TwoPart { .. } => Expected::TwoPartLimits,
-        Figures::Quota { .. } => Expected::QuotaLimits,
+        BaseFigures::TwoPart { .. } => Expected::TwoPartLimits,
+        BaseFigures::Quota { .. } => Expected::QuotaLimits,
     }
 }
 
