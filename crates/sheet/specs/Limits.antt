@@ -1,7 +1,7 @@
 -- How many bytes the parts of a sheet's text have at most.
 use Rattle.std.specs.Prelude.{ℕ, ◌+◌, ◌*◌}
 use Rattle.methodology.specs.Limits.{head_limit}
-use Rattle.accounts.specs.Limits.{licensee_limit}
+use Rattle.metering.specs.Limits.{licensee_limit}
 
 -- the digits of a number of 64 bits
 abbrev pub digit_limit : ℕ
@@ -31,6 +31,13 @@ bill_limit = 8 + 3 * figure_limit + 1
 abbrev pub margin_limit : ℕ
 margin_limit = 6 + signed_limit + 1
 
+-- the lines of all heads, and of all licensees
+abbrev pub heads_limit : ℕ
+heads_limit = head_limit * line_limit
+
+abbrev pub licensees_limit : ℕ
+licensees_limit = licensee_limit * bill_limit
+
 -- a whole text
 abbrev pub text_limit : ℕ
-text_limit = month_limit + head_limit * line_limit + licensee_limit * bill_limit + margin_limit
+text_limit = month_limit + heads_limit + licensees_limit + margin_limit

@@ -7,7 +7,7 @@ use Rattle.methodology.specs.Heads.{heads_of, head_at}
 use Rattle.accounts.specs.declared.sheet.HeadLine.{HeadLine}
 use Rattle.accounts.specs.declared.sheet.Billed.{Billed}
 use Rattle.accounts.specs.declared.sheet.Sheet.{Sheet}
-use Rattle.accounts.specs.Limits.{licensee_limit}
+use Rattle.metering.specs.Limits.{licensee_limit}
 use Rattle.accounts.specs.Sheets.{line_at, billed_at}
 
 -- a number behind a blank
@@ -51,6 +51,12 @@ head_text s k = head_line (head_at s.shape (k + 1)) (line_at s k)
 abbrev pub licensee_text : Sheet → ℕ → List ℕ
 licensee_text s k = licensee_line (k + 1) (billed_at s k)
 
+-- the lines of the heads, and of the licensees that have one
+abbrev pub heads_text : Sheet → List ℕ
+heads_text s = lines (head_text s) (heads_of s.shape)
+
+abbrev pub licensees_text : Sheet → List ℕ
+licensees_text s = lines (licensee_text s) licensee_limit
+
 unfoldable pub sheet_text : Sheet → List ℕ
-sheet_text s =
-    month_line s.month ++ (lines (head_text s) (heads_of s.shape) ++ (lines (licensee_text s) licensee_limit ++ margin_line s.margin))
+sheet_text s = month_line s.month ++ (heads_text s ++ (licensees_text s ++ margin_line s.margin))

@@ -1,18 +1,16 @@
-//! The text of a sheet.
+//! The text of a closed month's sheet: a line for the month, for each head, for each licensee that is billed, and for the margin.
 #![tactic(auto)]
 
 mod lines;
 pub mod text;
-pub mod write;
 
-pub use text::{TEXT_LIMIT, text_of};
-pub use write::write_sheet;
+pub use text::{TEXT_LIMIT, text_of, write_sheet};
 
 #[cfg(test)]
 mod tests {
     use super::*;
     use accounts::{Billed, Sheet};
-    use metering::Refusal;
+    use metering::ShortBuffer;
     use methodology::{Methodology, TwoIntervals};
 
     // A sheet of two intervals, with one negative balance, a line for licensee 8 and a loss as margin.
@@ -43,7 +41,7 @@ mod tests {
     #[test]
     fn a_short_buffer_is_left_as_it_was(rt: HostRuntime) {
         let mut buffer = [b'.'; 4];
-        assert_eq!(rt; write_sheet(&example(), &mut buffer), Err(Refusal::Buffer));
+        assert_eq!(rt; write_sheet(&example(), &mut buffer), Err(ShortBuffer));
         assert_eq!(rt; buffer, [b'.'; 4]);
     }
 }

@@ -58,23 +58,16 @@ pub fn month_line(month: u8) -> ArrayString<MONTH_LINE>
     line_of("month", month)
 }
 
-/// Writes the name of a head, as its `Display` does. A `write!` of it has a contract for `Ok` alone, and none that says when
-/// it is `Ok`; a sheet's text is always written.
+/// Writes the name of a head.
 fn push_name(line: &mut ArrayString<HEAD_LINE>, head: Head)
     requires { line.old.bytes ≡ codes "" }
     ensures text { line.new.bytes ≡ name head }
     ensures len { array_string_len line.new ≤ name_limit }
 {
-    match head {
-        Head::Generation => line.push_str("G"),
-        Head::Revenue(1) => line.push_str("T"),
-        Head::Revenue(2) => line.push_str("B"),
-        Head::Revenue(_) => line.push_str("S"),
-        Head::Interval(i) => {
-            line.push_str("E");
-            let mut digits = Buffer::new();
-            line.push_str(digits.format(i));
-        }
+    line.push_str(head.letter());
+    if let Some(numeral) = head.numeral() {
+        let mut digits = Buffer::new();
+        line.push_str(digits.format(numeral));
     }
 }
 
@@ -94,7 +87,6 @@ pub fn head_line(head: Head, line: &HeadLine) -> ArrayString<HEAD_LINE>
 }
 
 /// The line of a licensee, or nothing where it has none.
-/// Written out, as that of a head is: its figures are of several types, of which a slice can hold but one.
 #[tactic(auto, unfolding(crate::specs::Text::licensee_line))]
 pub fn licensee_line(number: usize, billed: &Option<Billed>) -> ArrayString<LICENSEE_LINE>
     ensures { result.bytes ≡ licensee_line number billed.now }
