@@ -1,12 +1,12 @@
 -- The figures of the first month: what is filed and measured.
 use Rattle.std.specs.Prelude.{◌≡◌, ℕ, ◌<◌, List, [], ◌∷◌, Ok, Err, Result, length, replicate, slice_index, slice_set}
 use Rattle.metering.specs.Limits.{block_count, kind_number}
-use Rattle.metering.specs.Verdict.{verdict}
+use Rattle.metering.specs.Refusals.{figures_code, verdict}
 use Rattle.metering.specs.Makes.{figures_check}
 use Rattle.metering.specs.declared.figures.Figures.{Figures}
-use Rattle.metering.specs.declared.refusal.Refusal.{Refusal}
-use Rattle.metering.specs.declared.reading.Kind.{Kind}
-use Rattle.metering.specs.declared.reading.Kind.TheVariants.{Generator, Licensee}
+use Rattle.metering.specs.declared.figures.FiguresRefusal.{FiguresRefusal}
+use Rattle.metering.specs.declared.kind.Kind.{Kind}
+use Rattle.metering.specs.declared.kind.Kind.TheVariants.{Generator, Licensee}
 use Rattle.metering.specs.declared.reading.Reading.{Reading}
 use Rattle.methodology.specs.Limits.{head_limit}
 use Rattle.agreements.specs.Meaning.{Meaning}
@@ -53,9 +53,14 @@ abbrev pub figures_of : Kind → ℕ → ℕ → List ℕ → Figures
 figures_of kind number demand energies = record { kind = kind_number kind; number = number; demand = demand; blocks = energies }
 
 -- a reading of what a meter measured, or the refusal of its figures
-abbrev pub Reads : Kind → ℕ → ℕ → List ℕ → Result Reading Refusal → Type 0
-Reads kind number demand energies (Ok r) = Measures kind number demand energies r
-Reads kind number demand energies (Err why) = verdict {A = Unit {0}} (Err why) ≡ figures_check (figures_of kind number demand energies)
+abbrev pub Accepts : Kind → ℕ → ℕ → List ℕ → Result Reading FiguresRefusal → Type 0
+Accepts kind number demand energies (Ok r) = Measures kind number demand energies r
+Accepts kind number demand energies (Err why) = verdict {A = Unit {0}} figures_code (Err why) ≡ figures_check (figures_of kind number demand energies)
+
+-- of three energies: by night, in the morning and in the evening
+abbrev pub Measured : Kind → ℕ → ℕ → List ℕ → Result Reading FiguresRefusal → Type 0
+Measured kind number demand energies r =
+    Accepts kind number demand (in_blocks (slice_index energies 0) (slice_index energies 1) (slice_index energies 2)) r
 
 -- the generator's month, and the licensee's
 abbrev pub FirstSent : Reading → Type 0

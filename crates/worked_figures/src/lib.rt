@@ -1,8 +1,8 @@
 //! The figures of the worked month: a year, a tariff, an agreement, and what two meters measured.
 #![tactic(auto)]
 
-pub mod filed;
-pub mod measuring;
+pub mod filings;
+pub mod readings;
 
-pub use filed::{agreement, tariff, year};
-pub use measuring::{measured, sent, taken};
+pub use filings::{agreement, tariff, year};
+pub use readings::{measured, sent, taken};

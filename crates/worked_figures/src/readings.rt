@@ -1,9 +1,8 @@
 //! What meters measured in the worked month.
-ghost use Rattle.std.specs.Prelude.{slice_index};
-ghost use Rattle.metering.specs.declared.reading.Kind.TheVariants.{Generator, Licensee};
-ghost use Rattle.worked_figures.specs.FirstCalls.{FirstSent, FirstTaken, Reads, in_blocks};
+ghost use Rattle.metering.specs.declared.kind.Kind.TheVariants.{Generator, Licensee};
+ghost use Rattle.worked_figures.specs.FirstCalls.{FirstSent, FirstTaken, Measured};
 
-use metering::{BLOCKS, Figures, Kind, Reading, Refusal, make_reading};
+use metering::{BLOCKS, Figures, FiguresRefusal, Kind, Reading, make_reading};
 
 /// One block in each interval of three: 01:00 is off-peak, 06:00 day and 19:00 peak.
 const NIGHT: usize = 2;
@@ -13,8 +12,13 @@ const MORNING: usize = 12;
 const EVENING: usize = 38;
 
 /// What a meter measured: kW, and kWh by night, in the morning and in the evening.
-pub fn measured(kind: Kind, number: u8, demand: u32, energies: [u32; 3]) -> Result<Reading, Refusal>
-    ensures { Reads kind number demand (in_blocks (slice_index energies 0) (slice_index energies 1) (slice_index energies 2)) result }
+pub fn measured(
+    kind: Kind,
+    number: u8,
+    demand: u32,
+    energies: [u32; 3],
+) -> Result<Reading, FiguresRefusal>
+    ensures { Measured kind number demand energies result }
 {
     let mut blocks = [0; BLOCKS];
     blocks[NIGHT] = energies[0];
