@@ -9,7 +9,7 @@ abbrev pub cause_number : Cause → ℕ
 cause_number Contract = 1
 cause_number Ceiling = 2
 
--- an agreement is not made, since a price, the contracted kW or the quota is over its limit
+-- an agreement is not made, because one of its figures is too large
 abbrev pub over_limit_number : ℕ
 over_limit_number = 2
 

@@ -7,10 +7,10 @@ use crate::dues::Dues;
 use crate::fault::Fault;
 use metering::Reading;
 
-/// An agreement prices readings. It may keep a standing, as what is left of a quota, which only booking moves.
-/// All that generic code knows of it is its meaning. Dues go into the caller's table, which a fault leaves as it was.
+/// An agreement prices readings. It may keep a standing, numbers that booking moves and asking does not, as what is left of
+/// a quota. Dues go into the caller's table, which a fault leaves as it was.
 pub trait Agreement {
-    /// Its layer number, its standing and its terms.
+    /// Its layer number, its standing and its terms: all that generic code knows of it.
     ghost meaning: { Self → Meaning };
 
     /// Its layer number: 0 for an agreement that stands on no other, one more for each layer above.
@@ -28,6 +28,6 @@ pub trait Agreement {
         ensures wrote { table.new ≡ written (answer (meaning self.old) reading.now) table.old }
         ensures moves { meaning self.new ≡ moved (meaning self.old) reading.now };
 
-    /// At every standing that it can come to: the layer number and what it gives keep their limits.
+    /// The layer number keeps its limit, and what it gives the ceiling, at every standing that it can come to.
     ghost lawful: { (a : Self) (r : Reading) → Lawful (meaning a) r };
 }

@@ -26,7 +26,7 @@ impl Cause {
     }
 }
 
-/// A fault: its cause, and the layer that found it, 0 being the agreement at the bottom.
+/// Why a reading is not admitted, and which layer says so: 0 is the agreement that stands on no other.
 #[derive(Clone, Copy, PartialEq, Eq, Debug)]
 pub struct Fault {
     pub cause: Cause,
@@ -44,7 +44,7 @@ impl fmt::Display for Fault {
     }
 }
 
-/// The refusal to make an agreement: a price, the contracted kW or the quota is over its limit.
+/// An agreement is not made, because one of its figures is too large.
 #[derive(Clone, Copy, PartialEq, Eq, Debug)]
 pub struct OverLimit;
 

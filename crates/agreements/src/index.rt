@@ -10,7 +10,8 @@ use crate::fault::{Cause, Fault};
 use crate::limits::DUE_LIMIT;
 use metering::Reading;
 
-/// A layer over the agreement below it, whose standing is its own.
+/// A layer over the agreement below it, whose standing it shares. It admits no reading whose dues would pass the ceiling
+/// (cause 2).
 #[derive(Drop)]
 pub struct Index<A> {
     below: A,

@@ -1,4 +1,4 @@
-//! A tour: banks made in a program and from figures, and what they answer.
+//! A tour of agreements: banks written in a program and banks made from figures, and what each answers.
 #![tactic(auto)]
 
 use agreements::{Dues, Index, Quota, TwoPart};

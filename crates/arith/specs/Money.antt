@@ -1,4 +1,4 @@
--- Money is counted in grains: the ten-thousandth part of a cent.
+-- The grain, in which all money is counted, and the most that a unit may cost.
 use Rattle.std.specs.Prelude.{ℕ}
 
 -- the grains of a cent

@@ -1,15 +1,16 @@
-//! The amounts that can be split.
+//! What can be split over a quantity.
 ghost use Rattle.std.specs.Prelude.{◌≡◌, ℕ, ◌/◌, ◌%◌, ◌<◌};
 ghost use Rattle.arith.specs.Division.{IsSplit};
 ghost use Rattle.arith.specs.lemmas.Splits.{parts_split, split_parts};
 
-/// A number of cents or grains, of 64 or of 128 bits.
+/// A number of cents or grains, in 64 or in 128 bits.
 pub trait Amount: Copy {
     ghost number: { Self → ℕ };
 
-    /// The quotient and the rest.
+    /// The quotient and the rest, over a quantity.
     ghost parts: { Self → ℕ → Self × ℕ };
 
+    /// Both at once. The quantity is not 0.
     fn div_rem(self, quantity: u64) -> (Self, u64)
         requires { 0 < quantity }
         ensures { result ≡ parts self quantity };

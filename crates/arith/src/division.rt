@@ -1,11 +1,12 @@
-//! Division with its rest, and division of signed numbers towards minus infinity.
+//! Division with its rest, and division of signed numbers downwards.
 ghost use Rattle.std.specs.Prelude.{◌≡◌, ℕ, ℤ, Ok};
 ghost use Rattle.arith.specs.Division.{IsSplit, SplitOrNone, split_by, Floor, FloorOrNone, floor_of, AroundZero, AtTheLimits};
 
 use crate::amount::Amount;
 use crate::quantity::NoQuantity;
 
-/// An amount over a quantity: the rate that it gives, a whole number, and the carry, which is too little for one more.
+/// An amount over a quantity: the rate, in whole numbers, and the carry, what is left because it is too little for a rate of
+/// one more.
 /// It refuses a quantity of 0 (17).
 pub fn split<A: Amount>(amount: A, quantity: u64) -> Result<(A, u64), NoQuantity>
     ensures value { result ≡ split_by A.parts amount quantity }

@@ -7,9 +7,8 @@ use crate::division::split;
 /// Months in a year.
 pub const MONTHS: u64 = 12;
 
-/// The share that a month, counted from 1, has of a yearly amount: what the year has earned by its end, less what it had a month
-/// before.
-/// Month 0 has none, and the months of a second year go on as those of the first.
+/// The share that a month, counted from 1, has of a yearly amount: what the year has earned by its end, less what the year
+/// had earned a month before. Month 0 has none, and the months of a second year go on as those of the first.
 pub fn month_share(yearly: u64, month: u8) -> u64
     ensures value { result ≡ share yearly month }
     ensures whole { shares_to yearly months_of_year ≡ yearly }

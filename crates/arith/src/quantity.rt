@@ -6,7 +6,7 @@ ghost use Rattle.std.specs.Prelude.{◌≡◌};
 pub struct NoQuantity;
 
 impl NoQuantity {
-    /// The number under which operators know this refusal.
+    /// The number by which operators know it.
     pub fn number(self) -> u8
         ensures { result ≡ 17 }
     {

@@ -3,13 +3,14 @@ ghost use Rattle.std.specs.Prelude.{◌≡◌, ℕ, ◌+◌, ◌*◌, ◌≤◌,
 ghost use Rattle.arith.specs.Division.{Floor};
 ghost use Rattle.arith.specs.Scaling.{whole_ppm, whole_thousandths, millionths, more_by, more_by_signed, thousandths, Rounded};
 
-/// A whole in ppm: a ppm is a millionth.
+/// A whole in ppm, millionths.
 pub const WHOLE_PPM: u64 = 1_000_000;
 
 /// A whole in thousandths.
 pub const WHOLE_THOUSANDTHS: u64 = 1_000;
 
 /// So many ppm of x, rounded down.
+#[tactic(auto, using(crate::specs::lemmas::Growth::at_most_times))]
 pub fn scale_millionths(x: u64, ppm: u64) -> u128
     ensures value { result ≡ millionths ppm x }
     ensures rounded { Rounded (x * ppm) whole_ppm result }
@@ -28,7 +29,7 @@ pub fn scale_ppm(x: u64, ppm: u32) -> u128
     scale_millionths(x, WHOLE_PPM + u64::from(ppm))
 }
 
-/// The same of a signed number, rounded towards minus infinity.
+/// The same of a signed number, rounded downwards.
 pub fn scale_ppm_signed(x: i64, ppm: u32) -> i128
     ensures value { result ≡ more_by_signed ppm x }
     ensures floored { Floor (x *ℤ pos (whole_ppm + ppm)) whole_ppm result }
@@ -39,6 +40,7 @@ pub fn scale_ppm_signed(x: i64, ppm: u32) -> i128
 }
 
 /// c thousandths of x, rounded down.
+#[tactic(auto, using(crate::specs::lemmas::Growth::at_most_times))]
 pub fn scale_thousandths(x: u64, c: u32) -> u128
     ensures value { result ≡ thousandths c x }
     ensures rounded { Rounded (x * c) whole_thousandths result }

@@ -16,7 +16,7 @@ nowhere = record { layer = 0; standing = []; terms = λ s r. refused (record { c
 abbrev pub at_place : List Meaning → ℕ → Option Meaning
 at_place row k = cond (nat_le 1 k && nat_le k (length row)) (Some (slice_index_or row (k - 1) nowhere)) None
 
--- an agreement's answer as a bank tells it: the fault goes up unaltered
+-- an agreement's answer as a bank tells it, with the very fault
 abbrev pub told : Answer → Result (Unit {0}) BankRefusal
 told (admitted d s) = Ok tt
 told (refused f) = Err (Fault f)
@@ -43,7 +43,7 @@ pub record Booked (before : List Meaning) (k : ℕ) (r : Reading) (after : List 
   pub there : after ≡ moved_at before k r
   pub elsewhere : (j : ℕ) → (j ≢ k) → at_place after j ≡ at_place before j
 
--- two banks side by side: the left one's places first, and past the limit there are none
+-- two banks as one: the right one's places are counted on from the left one's, and what passes the limit is lost
 abbrev pub side_by_side : List Meaning → List Meaning → List Meaning
 side_by_side left right = take place_limit (left ++ right)
 

@@ -9,9 +9,9 @@ use crate::refusal::BankRefusal;
 use agreements::Dues;
 use metering::Reading;
 
-/// A bank holds agreements at places, which count from 1 to 32 at most. It answers at a place as the agreement there would,
-/// into the caller's table, which a refusal leaves as it was. It refuses a place that it does not have (8) and a reading
-/// that the agreement there does not admit (10).
+/// The agreements of a market. A place is a number from 1 to 32 by which a generator is known, and a bank says which
+/// agreement stands at each. It answers as the agreement there would, into the caller's table, which a refusal leaves as it
+/// was. It refuses a place that it does not have (8) and a reading that the agreement there does not admit (10).
 pub trait Bank {
     /// What the agreement at each place means, place 1 first.
     ghost row: { Self → List Meaning };
@@ -26,15 +26,16 @@ pub trait Bank {
         ensures wrote { table.new
             ≡ written_at (at_place (row self.now) place) reading.now table.old };
 
-    /// Books at the place: the same answer, and that agreement's standing moves. Every other stays as it is.
+    /// Books at the place: it gives the same answer, and moves the standing of the agreement there, and no other.
     fn book_at(&mut self, place: u8, reading: &Reading, table: &mut Dues) -> Result<(), BankRefusal>
         ensures answered { result ≡ outcome_at (at_place (row self.old) place) reading.now }
         ensures wrote { table.new
             ≡ written_at (at_place (row self.old) place) reading.now table.old }
         ensures moves { Booked (row self.old) place reading.now (row self.new) };
 
+    /// It has 32 places at most.
     ghost few: { (b : Self) → length (row b) ≤ place_limit };
 
-    /// What every agreement keeps, kept at each place.
+    /// Each agreement keeps what every agreement does.
     ghost lawful: { (b : Self) (k : ℕ) (r : Reading) → LawfulAt (at_place (row b) k) r };
 }

@@ -1,4 +1,4 @@
-//! A bank made of two.
+//! A bank that two others are joined into.
 ghost use Rattle.std.specs.Prelude.{◌≡◌};
 ghost use Rattle.banks.specs.Rows.{side_by_side};
 ghost use Rattle.std.proofs.Common.{arith};
@@ -10,8 +10,8 @@ use crate::refusal::BankRefusal;
 use agreements::Dues;
 use metering::{PLACES, Reading};
 
-/// Two banks side by side. The places of the left one come first, and those of the right one count on from them.
-/// There is none past the 32nd.
+/// Two banks as one. A place of the left bank keeps its number, and the right bank's places are counted on from there; one
+/// that would have a number over 32 is lost.
 #[derive(Drop)]
 pub struct Beside<L, R> {
     left: L,
@@ -19,6 +19,7 @@ pub struct Beside<L, R> {
 }
 
 impl<L, R> Beside<L, R> {
+    /// The left bank and the right one together.
     pub fn new(left: L, right: R) -> Beside<L, R>
         ensures { (result.left ≡ left) × (result.right ≡ right) }
     {

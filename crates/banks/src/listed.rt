@@ -1,4 +1,4 @@
-//! A list of agreements is a bank: one that a program makes while it runs.
+//! A bank that a program makes while it runs.
 ghost use Rattle.std.specs.Prelude.{◌≡◌, ◌≤◌, [], vec_len, map, length};
 ghost use Rattle.std.proofs.Common.{arith};
 ghost use Rattle.std.proofs.lemmas.List.{length-map};
@@ -10,7 +10,7 @@ use agreements::{Agreement, Dues};
 use metering::{PLACES, Reading, index_of};
 use std::alloc::Global;
 
-/// Agreements of any one type, the first at place 1.
+/// A list of agreements of one type, the first at place 1.
 #[derive(Drop)]
 pub struct Listed<T> {
     list: Vec<T>,

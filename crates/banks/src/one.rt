@@ -1,4 +1,4 @@
-//! A bank of one place.
+//! The smallest bank: a single agreement.
 ghost use Rattle.std.specs.Prelude.{◌≡◌, ◌≢◌, [], ◌∷◌, MatchResult};
 ghost use Rattle.std.proofs.Common.{rules};
 
@@ -7,13 +7,14 @@ use crate::refusal::BankRefusal;
 use agreements::{Agreement, Dues};
 use metering::Reading;
 
-/// A bank with the agreement at place 1.
+/// A bank that has the agreement at place 1, and no other place.
 #[derive(Drop)]
 pub struct One<A> {
     agreement: A,
 }
 
 impl<A> One<A> {
+    /// The bank of this agreement.
     pub fn new(agreement: A) -> One<A>
         ensures { result.agreement ≡ agreement }
     {

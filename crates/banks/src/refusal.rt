@@ -6,6 +6,7 @@ ghost use Rattle.banks.specs.Refusals.{number_of, refusal_text};
 use agreements::Fault;
 use std::fmt;
 
+/// What a bank refuses.
 #[derive(Clone, Copy, PartialEq, Eq, Debug)]
 pub enum BankRefusal {
     /// The bank has no such place.
@@ -15,7 +16,7 @@ pub enum BankRefusal {
 }
 
 impl BankRefusal {
-    /// The refusal's number.
+    /// The refusal's number: 8, or 10 for any fault.
     pub fn number(self) -> u8
         ensures { result ≡ number_of self }
     {

@@ -21,7 +21,7 @@ OneToTwo x y = (x ≤ y) × (y ≤ 2 * x)
 abbrev pub Placed : Shape → Meaning → Type 0
 Placed s m = (block : ℕ) → block < block_count → UpTo s.intervals (m.interval block)
 
--- when the energy sent in is from one to two times the energy delivered, so is allowed supply
+-- allowed supply stays between what was delivered and twice as much, as long as what was sent in does
 abbrev pub Supplied : Meaning → Type 0
 Supplied m =
     (sent delivered factor : ℕ) →

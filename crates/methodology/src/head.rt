@@ -1,4 +1,4 @@
-//! A head: one of the accounts that a month is billed by.
+//! Heads, and how they are named.
 ghost use Rattle.std.specs.Prelude.{◌≡◌, Some};
 ghost use Rattle.methodology.specs.Heads.{by_demand, rate_limit};
 ghost use Rattle.methodology.specs.Names.{letter, numeral, name};
@@ -6,10 +6,11 @@ ghost use Rattle.methodology.specs.Names.{letter, numeral, name};
 use arith::{DEMAND_RATE_LIMIT, ENERGY_RATE_LIMIT};
 use std::fmt;
 
-/// What a sum of money is collected for. Each head has a rate of its own, which all licensees pay.
+/// What money is collected for: the month's costs are kept apart by head, and each head has a rate of its own, which all
+/// licensees pay.
 #[derive(Clone, Copy, PartialEq, Eq, Debug)]
 pub enum Head {
-    /// Generation capacity.
+    /// The generators' capacity.
     Generation,
     /// An allowed revenue, counted from 1.
     Revenue(usize),

@@ -11,8 +11,8 @@ use arith::WHOLE_PPM;
 pub const FACTOR_LIMIT: u64 = WHOLE_PPM;
 
 /// A market's own rules: which interval a block of the day is in, and how much energy an interval's price may cover.
-/// It refuses nothing and never changes. Intervals are counted from 1. Nothing is said of a block that the day does not
-/// have.
+/// Intervals are counted from 1. Its answers depend on nothing but what it is asked, and there is always one; nothing is
+/// said of a block that the day does not have.
 pub trait Methodology {
     /// How many allowed revenues it has.
     const REVENUES: usize;
@@ -56,6 +56,6 @@ pub trait Methodology {
     /// Each block of the day is in an interval that it has.
     ghost placed: { (m : Self) → Placed shape (meaning m) };
 
-    /// When the energy sent in is from one to two times the energy delivered, so is allowed supply.
+    /// Allowed supply stays between what was delivered and twice as much, as long as what was sent in does.
     ghost supplied: { (m : Self) → Supplied (meaning m) };
 }

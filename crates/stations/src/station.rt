@@ -1,4 +1,4 @@
-//! A station: an agreement under any number of index layers, made while the program runs.
+//! Stations, and banks of them.
 ghost use Rattle.stations.specs.Figures.{MakesStation};
 ghost use Rattle.stations.specs.Layers.{station_meaning, base_meaning};
 ghost use Rattle.stations.specs.lemmas.Layering.{base_lawful, lawful_layered};
@@ -10,7 +10,8 @@ use agreements::{Agreement, Dues, Factor, Fault, OverLimit, indexed_dues, layer_
 use banks::Listed;
 use metering::Reading;
 
-/// The bottom, and the layers' factors in millionths as they were filed, the lowest layer's first.
+/// An agreement under any number of index layers: the one at the bottom, and the layers' factors in millionths as they were
+/// filed, the lowest layer's first.
 #[derive(Drop)]
 pub struct Station {
     base: Base,

@@ -1,4 +1,4 @@
-//! A bank with its places told from the last to the first.
+//! A bank that counts another's places from the last to the first.
 ghost use Rattle.std.specs.Prelude.{◌≡◌, ◌+◌, ◌-◌, reverse, length};
 ghost use Rattle.std.proofs.Common.{arith};
 ghost use Rattle.std.proofs.lemmas.List.{length-reverse};
@@ -15,6 +15,7 @@ pub struct Reversed<B> {
 }
 
 impl<B> Reversed<B> {
+    /// The bank, turned round.
     pub fn new(bank: B) -> Reversed<B>
         ensures { result.bank ≡ bank }
     {

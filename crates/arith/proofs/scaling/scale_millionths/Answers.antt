@@ -1,6 +1,0 @@
-use Rattle.arith.specs.Scaling.{whole_ppm}
-use Rattle.arith.specs.lemmas.Growth.{at_most_times}
-use Rattle.arith.proofs.scaling.scale_millionths.Goals as goal
-
-pub returns-clause-most : goal.returns-clause-most
-returns-clause-most c = rw (c.from.ensures, c.from-2.ensures, c.from-3.ensures) (at_most_times whole_ppm c.args.x c.args.ppm)
