@@ -33,12 +33,14 @@ over_ceiling layer = record { cause = Ceiling; layer = layer }
 
 -- the dues under a factor, or the fault of the layer
 abbrev pub index_dues : ℕ → ℕ → Dues → Result Dues Fault
-index_dues layer f d = cond (passes (scaled_dues f d)) (Err (over_ceiling layer)) (Ok (scaled_dues f d))
+index_dues layer f d =
+    cond (passes (scaled_dues f d)) (Err (over_ceiling layer)) (Ok (scaled_dues f d))
 
 -- what a layer makes of the answer below it, whose fault it hands up
 abbrev pub indexed_answer : ℕ → ℕ → Answer → Answer
 indexed_answer layer f (refused fault) = refused fault
-indexed_answer layer f (admitted d s) = cond (passes (scaled_dues f d)) (refused (over_ceiling layer)) (admitted (scaled_dues f d) s)
+indexed_answer layer f (admitted d s) =
+    cond (passes (scaled_dues f d)) (refused (over_ceiling layer)) (admitted (scaled_dues f d) s)
 
 -- the number of the layer above one: the count stops at 255
 abbrev pub above : ℕ → ℕ
@@ -47,4 +49,8 @@ above layer = min layer_limit (layer + 1)
 -- an agreement under a layer: the standing is the agreement's own
 abbrev pub indexed : ℕ → Meaning → Meaning
 indexed f m =
-    record { layer = above m.layer; standing = m.standing; terms = λ s r. indexed_answer (above m.layer) f (m.terms s r) }
+    record {
+      layer = above m.layer;
+      standing = m.standing;
+      terms = λ s r. indexed_answer (above m.layer) f (m.terms s r);
+    }

@@ -2,7 +2,8 @@
 use Rattle.std.specs.Prelude.{◌≡◌, ℕ, zero, suc, ◌+◌, ◌-◌, ◌*◌, ◌^◌, ◌/◌, ◌%◌, ◌<◌, ℤ, pos, negsuc, ◌+ℤ◌, ◌*ℤ◌, ◌≤ℤ◌, ◌<ℤ◌, Ok, Err, Result}
 use Rattle.arith.specs.declared.quantity.NoQuantity.{NoQuantity}
 
--- An amount is split over a quantity: the rate is a multiple of the step, nothing is lost, and what is carried does not pay for a step more.
+-- An amount is split over a quantity: the rate is a multiple of the step, nothing is lost, and what is carried is too little
+-- for a step more.
 pub record Split (step amount quantity rate carry : ℕ) : Type 0 where
   pub stepped : rate % step ≡ 0
   pub whole : amount ≡ rate * quantity + carry
@@ -21,10 +22,6 @@ SplitOrNone number amount quantity (Err e) = quantity ≡ 0
 abbrev pub split_by : {A : Type 0} → (A → ℕ → A × ℕ) → A → ℕ → Result (A × ℕ) NoQuantity
 split_by parts amount zero = Err (record {})
 split_by parts amount (suc n) = Ok (parts amount (suc n))
-
--- The answer of a split in steps of 1.
-abbrev pub split_of : ℕ → ℕ → Result (ℕ × ℕ) NoQuantity
-split_of = split_by (λ amount quantity. (amount / quantity, amount % quantity))
 
 -- q is the largest number with q * d ≤ n.
 pub record Floor (n : ℤ) (d : ℕ) (q : ℤ) : Type 0 where

@@ -1,5 +1,5 @@
 //! A yearly amount in twelve monthly shares.
-ghost use Rattle.std.specs.Prelude.{◌≡◌, ℕ, ◌+◌, ◌*◌, ◌/◌, ◌<◌, ◌≤◌};
+ghost use Rattle.std.specs.Prelude.{◌≡◌, ◌*◌, ◌/◌, ◌<◌, ◌≤◌};
 ghost use Rattle.arith.specs.Months.{months_of_year, share, shares_to, Even};
 
 use crate::division::split;

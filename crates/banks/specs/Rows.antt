@@ -8,13 +8,15 @@ use Rattle.banks.specs.declared.refusal.BankRefusal.{BankRefusal}
 use Rattle.banks.specs.declared.refusal.BankRefusal.TheVariants.{NoPlace, Fault}
 use Rattle.metering.specs.Limits.{place_limit}
 
--- never looked at: `get_or` wants something past the end
+-- what a list has past its end; never looked at
 abbrev pub nowhere : Meaning
-nowhere = record { layer = 0; standing = []; terms = λ s r. refused (record { cause = Contract; layer = 0 }) }
+nowhere =
+    record { layer = 0; standing = []; terms = λ s r. refused (record { cause = Contract; layer = 0 }) }
 
 -- the meaning at place k, which counts from 1
 abbrev pub at_place : List Meaning → ℕ → Option Meaning
-at_place row k = cond (nat_le 1 k && nat_le k (length row)) (Some (slice_index_or row (k - 1) nowhere)) None
+at_place row k =
+    cond (nat_le 1 k && nat_le k (length row)) (Some (slice_index_or row (k - 1) nowhere)) None
 
 -- an agreement's answer as a bank tells it, with the very fault
 abbrev pub told : Answer → Result (Unit {0}) BankRefusal

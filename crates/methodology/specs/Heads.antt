@@ -11,7 +11,9 @@ heads_of s = 1 + s.revenues + s.intervals
 
 abbrev pub head_at : Shape → ℕ → Head
 head_at s number =
-    cond (nat_le number 1) Generation (cond (nat_le number (1 + s.revenues)) (Revenue (number - 1)) (Interval (number - 1 - s.revenues)))
+    cond (nat_le number 1) Generation
+    (cond (nat_le number (1 + s.revenues)) (Revenue (number - 1))
+    (Interval (number - 1 - s.revenues)))
 
 -- The number of the head that a block's energy goes to.
 abbrev pub block_head : Shape → Meaning → ℕ → ℕ

@@ -10,7 +10,7 @@ revenue_limit = 3
 abbrev pub head_limit : ℕ
 head_limit = 6
 
--- most energy of an interval in a month that a methodology has to answer for, kWh: more than all readings of a month can hold
+-- most energy of an interval and a month that a methodology answers for, kWh: more than a month's readings can hold
 abbrev pub supply_limit : ℕ
 supply_limit = 100000000000
 

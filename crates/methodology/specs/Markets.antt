@@ -27,7 +27,8 @@ abbrev pub two_shape : Shape
 two_shape = record { revenues = 3; intervals = 2; most = lit≤ tt; some = lit≤ tt; few = lit≤ tt }
 
 abbrev pub two_meaning : Meaning
-two_meaning = record { interval = two_intervals; allowed = λ sent delivered factor. more_by factor delivered }
+two_meaning =
+    record { interval = two_intervals; allowed = λ sent delivered factor. more_by factor delivered }
 
 -- The same by the clock, in minutes after midnight: when a block begins, and the interval of a minute.
 abbrev pub begins : ℕ → ℕ
@@ -41,7 +42,8 @@ between start end minute = nat_le start minute && nat_lt minute end
 
 abbrev pub three_by_the_clock : ℕ → ℕ
 three_by_the_clock minute =
-    cond (between (clock 5 30) (clock 18 30) minute) 1 (cond (between (clock 18 30) (clock 22 30) minute) 2 3)
+    cond (between (clock 5 30) (clock 18 30) minute) 1
+    (cond (between (clock 18 30) (clock 22 30) minute) 2 3)
 
 abbrev pub two_by_the_clock : ℕ → ℕ
 two_by_the_clock minute = cond (between (clock 17 0) (clock 21 0) minute) 1 2

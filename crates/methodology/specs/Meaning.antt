@@ -4,7 +4,8 @@ use Rattle.metering.specs.Limits.{block_count}
 use Rattle.methodology.specs.declared.shape.Shape.{Shape}
 use Rattle.methodology.specs.Limits.{supply_limit, factor_limit}
 
--- The interval of each block, and the allowed supply of an interval by energy sent in, energy delivered and filed loss factor.
+-- The interval of each block; and an interval's allowed supply, kWh, by the kWh sent in, the kWh delivered and the filed loss
+-- factor.
 pub record Meaning : Type 0 where
   pub interval : ℕ → ℕ
   pub allowed : ℕ → ℕ → ℕ → ℕ
@@ -25,9 +26,11 @@ Placed s m = (block : ℕ) → block < block_count → UpTo s.intervals (m.inter
 abbrev pub Supplied : Meaning → Type 0
 Supplied m =
     (sent delivered factor : ℕ) →
-    sent ≤ supply_limit → factor ≤ factor_limit → OneToTwo delivered sent → OneToTwo delivered (m.allowed sent delivered factor)
+    sent ≤ supply_limit → factor ≤ factor_limit →
+    OneToTwo delivered sent → OneToTwo delivered (m.allowed sent delivered factor)
 
 -- an answer is the allowed supply, where the energy and the factor keep their limits
 abbrev pub IsAllowed : Meaning → ℕ → ℕ → ℕ → ℕ → Type 0
 IsAllowed m sent delivered factor answer =
-    sent ≤ supply_limit → delivered ≤ supply_limit → factor ≤ factor_limit → answer ≡ m.allowed sent delivered factor
+    sent ≤ supply_limit → delivered ≤ supply_limit → factor ≤ factor_limit →
+    answer ≡ m.allowed sent delivered factor

@@ -6,7 +6,10 @@ use Rattle.methodology.specs.Limits.{revenue_limit}
 
 abbrev pub letter : Head → List ℕ
 letter Generation = codes "G"
-letter (Revenue i) = cond (i == 1) (codes "T") (cond (i == 2) (codes "B") (cond (i == 3) (codes "S") (codes "R")))
+letter (Revenue i) =
+    cond (i == 1) (codes "T")
+    (cond (i == 2) (codes "B")
+    (cond (i == 3) (codes "S") (codes "R")))
 letter (Interval i) = codes "E"
 
 -- a market's revenues have letters of their own, its intervals one for all

@@ -25,4 +25,5 @@ MakesBase figures = Makes (figures_fit figures) base_meaning (figured figures)
 
 -- the same under a layer for each factor
 abbrev pub MakesStation : BaseFigures → List ℕ → Result Station OverLimit → Type 0
-MakesStation figures factors = Makes (figures_fit figures) station_meaning (layered factors (figured figures))
+MakesStation figures factors =
+    Makes (figures_fit figures) station_meaning (layered factors (figured figures))

@@ -12,7 +12,7 @@ abbrev pub base_meaning : Base → Meaning
 base_meaning (TwoPart t) = meaning_of_two_part t
 base_meaning (Quota q) = meaning_of_quota q
 
--- the factors of the layers, the lowest first
+-- an agreement under a layer for each factor, the lowest first
 abbrev pub layered : List ℕ → Meaning → Meaning
 layered factors m = fold (λ below f. indexed (counted f) below) m factors
 
