@@ -12,7 +12,7 @@ use Rattle.orders.specs.declared.order.Paid.{Paid as Payment}
 use Rattle.orders.specs.declared.order.Returned.{Returned}
 use Rattle.ledger.specs.declared.refusal.Refusal.{Refusal}
 use Rattle.ledger.specs.Views.{View}
-use Rattle.ledger.specs.Runs.{Event, metered, closed, drew, released, held}
+use Rattle.ledger.specs.Runs.{Event, meter, close, draw, release, hold}
 use Rattle.history.specs.declared.call.Call.{Call}
 use Rattle.history.specs.declared.call.Call.TheVariants.{Year, Tariff, Meter, Deliver, Close, Draw, Present}
 use Rattle.history.specs.declared.call.Named.{Named}
@@ -73,15 +73,15 @@ module _ (row : List Meaning) (es : List Event) (hand : List (Option PayOrder)) 
   told_none (Ok u) = refl
   told_none (Err why) = refl
 
-  metered_none : (given : Reading) (r : Result (Unit {0}) Refusal) → Grows (metered given r) hand
+  metered_none : (given : Reading) (r : Result ℕ Refusal) → Grows (meter given r) hand
   metered_none given (Ok u) = omega arith
   metered_none given (Err why) = omega arith
 
-  closed_none : (readings deliveries : ℕ) (s s' : Sheet) (r : Result (Unit {0}) Refusal) → Grows (closed readings deliveries s r s') hand
+  closed_none : (readings deliveries : ℕ) (s s' : Sheet) (r : Result (Unit {0}) Refusal) → Grows (close readings deliveries s r s') hand
   closed_none readings deliveries s s' (Ok u) = omega arith
   closed_none readings deliveries s s' (Err why) = omega arith
 
-  drawn_one : (place : ℕ) (r : Result PayOrder Refusal) → Grows (drew place r) (hand_drawn r hand)
+  drawn_one : (place : ℕ) (r : Result PayOrder Refusal) → Grows (draw place r) (hand_drawn r hand)
   drawn_one place (Ok o) = length-append hand (Some o ∷ [])
   drawn_one place (Err why) = omega arith
 
@@ -90,11 +90,11 @@ module _ (row : List Meaning) (es : List Event) (hand : List (Option PayOrder)) 
   spent_none others o (Ok u) (Other number) there = refl
   spent_none others o (Err back) which there = refl
 
-  released_none : (o : PayOrder) (r : Result Payment Returned) → drawn_by (answer_to row es (released o r)) ≡ 0
+  released_none : (o : PayOrder) (r : Result Payment Returned) → drawn_by (answer_to row es (release o r)) ≡ 0
   released_none o (Ok paid) = refl
   released_none o (Err back) = refl
 
-  held_none : (o : PayOrder) (r : Result (Unit {0}) Returned) → drawn_by (answer_to row es (held o r)) ≡ 0
+  held_none : (o : PayOrder) (r : Result (Unit {0}) Returned) → drawn_by (answer_to row es (hold o r)) ≡ 0
   held_none o (Ok u) = refl
   held_none o (Err back) = refl
 

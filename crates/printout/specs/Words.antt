@@ -4,8 +4,8 @@ use Rattle.history.specs.declared.call.Call.{Call}
 use Rattle.history.specs.declared.call.Call.TheVariants as call
 use Rattle.history.specs.declared.call.Named.TheVariants.{Drawn as DrawnHere, Other as OfOthers}
 use Rattle.history.specs.declared.spending.Spending.TheVariants as spending
-use Rattle.printout.specs.declared.verb.Verb.{Verb}
-use Rattle.printout.specs.declared.verb.Verb.TheVariants.{Year, Tariff, Meter, Deliver, Close, Draw, Release, Hold}
+use Rattle.journal.specs.declared.verb.Verb.{Verb}
+use Rattle.journal.specs.declared.verb.Verb.TheVariants.{Year, Tariff, Meter, Deliver, Close, Draw, Release, Hold}
 use Rattle.printout.specs.declared.subject.Subject.{Subject}
 use Rattle.printout.specs.declared.subject.Subject.TheVariants.{Market, Place, Licensee, Order, Other}
 
@@ -20,27 +20,13 @@ verb_of (call.Draw place) = Draw
 verb_of (call.Present spending.Release which) = Release
 verb_of (call.Present spending.Hold which) = Hold
 
-abbrev pub word : Verb → List ℕ
-word Year = codes "year"
-word Tariff = codes "tariff"
-word Meter = codes "meter"
-word Deliver = codes "deliver"
-word Close = codes "close"
-word Draw = codes "draw"
-word Release = codes "release"
-word Hold = codes "hold"
-
--- a station's place, a licensee, an order of the house's own or of another;
--- a year, a tariff, a closing and a draw name nothing
+-- a station's place, a licensee, an order of the house's own or of another; the other calls name nothing
 abbrev pub subject_of : Call → Subject
-subject_of (call.Year given) = Market
-subject_of (call.Tariff given) = Market
 subject_of (call.Meter given) = Place given.number
 subject_of (call.Deliver given) = Licensee given.number
-subject_of (call.Close stated) = Market
-subject_of (call.Draw place) = Market
 subject_of (call.Present how (DrawnHere number)) = Order number
 subject_of (call.Present how (OfOthers number)) = Other number
+subject_of _ = Market
 
 abbrev pub subject_text : Subject → List ℕ
 subject_text Market = []

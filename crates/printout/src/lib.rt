@@ -9,14 +9,16 @@ pub mod verb;
 pub use line::{FileLine, Line};
 pub use printer::Printer;
 pub use subject::Subject;
-pub use verb::Verb;
+pub use verb::verb_of;
 
 #[cfg(test)]
 mod tests {
     use super::*;
     use agreements::{Cause, Fault};
     use history::{Answer, Call, Named, Spending};
+    use journal::Verb;
     use ledger::Refusal;
+    use meter_files::FileRefusal;
     use metering::Reading;
     use std::test::Fail;
     use tariffs::Row;
@@ -112,7 +114,7 @@ mod tests {
     #[test]
     fn a_refused_file_has_its_line(rt: HostRuntime) -> Result<(), Fail> {
         let mut printer = Printer::new();
-        let line = printer.file_line(Verb::Meter, metering::Refusal::BlockNumber(9));
+        let line = printer.file_line(Verb::Meter, FileRefusal::BlockNumber(9));
         assert_eq!(rt;
             line.to_string(rt.alloc())?.as_str(),
             "1 meter refused 3 detail 9"

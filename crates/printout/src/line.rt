@@ -1,10 +1,12 @@
-//! The lines.
+//! The line that is printed of a call, and of a refused file.
 ghost use Rattle.std.specs.Prelude.{Some};
 ghost use Rattle.printout.specs.Text.{line_text, file_text};
 
 use crate::subject::Subject;
-use crate::verb::Verb;
+use crate::verb::verb_of;
 use history::{Answer, Call};
+use journal::Verb;
+use meter_files::FileRefusal;
 use orders::RETURNED;
 use std::fmt;
 
@@ -26,7 +28,7 @@ impl fmt::Display for Line<'_> {
     fn fmt<W: fmt::Write>(&self, f: &mut fmt::Formatter<W>) -> fmt::Result {
         let number = self.number;
         let orders = self.orders;
-        let verb = Verb::from(self.call);
+        let verb = verb_of(self.call);
         let subject = Subject::from(self.call);
         match *self.answer {
             Answer::Accepted | Answer::Closed(_) | Answer::Paid(_, _) => {
@@ -51,7 +53,7 @@ impl fmt::Display for Line<'_> {
 pub struct FileLine {
     pub number: usize,
     pub verb: Verb,
-    pub refusal: metering::Refusal,
+    pub refusal: FileRefusal,
 }
 
 /// As `13 meter refused 3 detail 9`.

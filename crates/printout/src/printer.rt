@@ -1,11 +1,12 @@
-//! Numbering the lines of a list, and the orders that are drawn in it.
+//! Who numbers the lines of a list, and the orders that are drawn in it.
 ghost use Rattle.std.specs.Prelude.{◌≡◌};
-ghost use Rattle.printout.specs.Counting.{next, orders_after};
+ghost use Rattle.printout.specs.Counting.{next, orders_after, after_answer, after_file};
 ghost use Rattle.printout.specs.Numbering.{NumberedAsNamed};
 
 use crate::line::{FileLine, Line};
-use crate::verb::Verb;
 use history::{Answer, Call};
+use journal::Verb;
+use meter_files::FileRefusal;
 use sheet::text_of;
 use std::io;
 
@@ -40,7 +41,7 @@ impl Printer {
         ensures orders { result.orders ≡ orders_after self.old.orders answer.now }
         ensures call { result.call.now ≡ call.now }
         ensures answer { result.answer.now ≡ answer.now }
-        ensures counted { self.new ≡ record { lines = result.number; orders = result.orders } }
+        ensures counted { self.new ≡ after_answer self.old answer.now }
         ensures law { NumberedAsNamed }
     {
         let number = self.next_line();
@@ -56,9 +57,11 @@ impl Printer {
     }
 
     /// The next line: of a call that was not made, since the file of its reading was refused.
-    pub fn file_line(&mut self, verb: Verb, refusal: metering::Refusal) -> FileLine
-        ensures line { result ≡ record { number = next self.old.lines; verb = verb; refusal = refusal } }
-        ensures counted { self.new ≡ record { lines = next self.old.lines; orders = self.old.orders } }
+    pub fn file_line(&mut self, verb: Verb, refusal: FileRefusal) -> FileLine
+        ensures number { result.number ≡ next self.old.lines }
+        ensures verb { result.verb ≡ verb }
+        ensures refusal { result.refusal ≡ refusal }
+        ensures counted { self.new ≡ after_file self.old }
     {
         let number = self.next_line();
         FileLine {
@@ -70,7 +73,7 @@ impl Printer {
 
     /// Prints the next line: of a call and its answer, and under an accepted closing its sheet.
     pub fn print(&mut self, rt: &HostRuntime, call: &Call, answer: &Answer) -> io::Result<()>
-        ensures { self.new ≡ record { lines = next self.old.lines; orders = orders_after self.old.orders answer.now } }
+        ensures { self.new ≡ after_answer self.old answer.now }
     {
         let line = self.line(call, answer);
         println!(rt; "{line}")?;
