@@ -4,12 +4,13 @@ use Rattle.std.proofs.lemmas.Int.{ints}
 use Rattle.agreements.specs.Meaning.{Meaning}
 use Rattle.methodology.specs.Meaning.{Meaning as Market}
 use Rattle.methodology.specs.declared.shape.Shape.{Shape}
-use Rattle.accounts.specs.Limits.{licensee_limit}
+use Rattle.metering.specs.Limits.{licensee_limit}
 use Rattle.accounts.specs.Sums.{sum_to, sum_toℤ}
 use Rattle.accounts.specs.Books.{account_at, fraction_at}
 use Rattle.accounts.proofs.Sums.{sum_same, sumℤ_same}
 use Rattle.orders.specs.declared.order.PayOrder.{PayOrder}
-use Rattle.orders.specs.Limits.{cent, place_limit}
+use Rattle.arith.specs.Money.{cent}
+use Rattle.metering.specs.Limits.{place_limit}
 use Rattle.orders.specs.Tills.{ordered_at}
 use Rattle.ledger.specs.Views.{View, till_of, books_of}
 use Rattle.ledger.specs.Accepted.{last_balance, last_carry, last_fraction, in_hand}
@@ -18,15 +19,15 @@ use Rattle.history.specs.declared.call.Call.{Call}
 use Rattle.history.specs.declared.answer.Answer.{Answer}
 use Rattle.history.specs.Slots.{in_slots}
 use Rattle.history.specs.Histories.{Performed}
-use Rattle.statement.specs.declared.account.Account.{Account}
+use Rattle.statement.specs.declared.account.AccountTotals.{AccountTotals}
 use Rattle.statement.specs.declared.money.PlaceMoney.{PlaceMoney}
 use Rattle.statement.specs.declared.tally.Tally.{Tally}
 use Rattle.statement.specs.Tallies.{nothing, tallied}
-use Rattle.statement.specs.Sums.{Sums, Holds}
-use Rattle.statement.specs.Statements.{no_money, States}
+use Rattle.statement.specs.Sums.{no_money, Sums, Holds}
+use Rattle.statement.specs.Statements.{States}
 use Rattle.statement.proofs.Telling.{Tallied, all_told}
 
-pub stated : (shape : Shape) (market : Market) (row : List Meaning) (serial : ℕ) (others : List (Option PayOrder)) (cs : List Call) (answers : List Answer) (hand : List (Option PayOrder)) (v : View) (revenues heads : ℕ) (t : Tally) (a : Account) (places : List PlaceMoney) → revenues ≡ shape.revenues → heads ≡ head_number shape market row → t ≡ tallied revenues cs answers nothing → Sums t (books_of v) heads a → ((p : ℕ) → 1 ≤ p → p ≤ place_limit → Holds t (till_of v) p (get_or places (p - 1) no_money)) → ((p : ℕ) → 1 ≤ p → ordered_at (till_of v) p ≡ in_hand p (in_slots hand)) → (y : Performed shape market row serial others cs answers hand v) → States shape market row y.events (in_slots hand) v (record { account = a; places = places })
+pub stated : (shape : Shape) (market : Market) (row : List Meaning) (serial : ℕ) (others : List (Option PayOrder)) (cs : List Call) (answers : List Answer) (hand : List (Option PayOrder)) (v : View) (revenues heads : ℕ) (t : Tally) (a : AccountTotals) (places : List PlaceMoney) → revenues ≡ shape.revenues → heads ≡ head_number shape market row → t ≡ tallied revenues cs answers nothing → Sums t (books_of v) heads a → ((p : ℕ) → 1 ≤ p → p ≤ place_limit → Holds t (till_of v) p (get_or places (p - 1) no_money)) → ((p : ℕ) → 1 ≤ p → ordered_at (till_of v) p ≡ in_hand p (in_slots hand)) → (y : Performed shape market row serial others cs answers hand v) → States shape market row y.events (in_slots hand) v (record { account = a; places = places })
 stated shape market row serial others cs answers hand v revenues heads t a places revenues_are heads_are sums account money covered y =
     let es = y.events in
     let n = head_number shape market row in
@@ -43,7 +44,7 @@ stated shape market row serial others cs answers hand v revenues heads t a place
     let margins = account.margins ∙ told.margins in
     let dues = account.dues ∙ told.dues in
     let revenues = account.revenues ∙ ap (λ n. cent * n) told.shares in
-    let law = y.law.account in
+    let law = y.law.balanced in
     record {
       account =
           record {

@@ -17,11 +17,11 @@ use Rattle.settlement.specs.Law.{bills_on}
 use Rattle.orders.specs.declared.order.PayOrder.{PayOrder}
 use Rattle.orders.specs.declared.order.Paid.{Paid}
 use Rattle.orders.specs.declared.order.Returned.{Returned}
-use Rattle.orders.specs.Limits.{place_limit}
+use Rattle.metering.specs.Limits.{place_limit}
 use Rattle.ledger.specs.declared.refusal.Refusal.{Refusal}
 use Rattle.ledger.specs.Views.{View}
 use Rattle.ledger.specs.Terms.{given_at}
-use Rattle.ledger.specs.Runs.{Event, filed, priced, metered, delivered, closed, drew, released, held, Run}
+use Rattle.ledger.specs.Runs.{Event, year, tariff, meter, deliver, close, draw, release, hold, Run}
 use Rattle.ledger.specs.Runs as runs
 use Rattle.ledger.specs.Accepted.{some_or, year_of, reading_of, sheet_of, payment_of, accepted_at, due_after, open_dues, closed_dues, yearly, allowed, billed, margins, cents_at, paid_at}
 use Rattle.ledger.proofs.Terms.{given_at_more}
@@ -120,24 +120,24 @@ module _ (revenues : ℕ) (few : revenues ≤ 3) (row : List Meaning) where
 
   -- an event that brings nothing
   quiet : (e : Event) {es : List Event} {t : Tally} → sheet_of e ≡ None → reading_of e ≡ None → year_of e ≡ None → payment_of e ≡ None → Tallied revenues row es t → Tallied revenues row (e ∷ es) t
-  quiet e {es} {t} sheet reading year payment i =
+  quiet e {es} {t} sheet reading unfiled payment i =
       unclosed e {es = es} {t = t} t sheet i refl refl refl refl
       (let r = ap (λ o. t.unsettled + some_or o 0 (due_after row es)) reading in omega arith)
-      (λ j h. i.yearly j h ∙ sym (no_year e es j year))
+      (λ j h. i.yearly j h ∙ sym (no_year e es j unfiled))
       refl
       (λ p low high. i.given p low high ∙ sym (no_reading e es p reading))
       (λ p low high. i.released p low high ∙ sym (no_payment e es p payment))
 
-  year_told : (given : Row) (u : Unit {0}) {es : List Event} {t : Tally} → Tallied revenues row es t → Tallied revenues row (filed given (Ok u) ∷ es) (with_year given t)
+  year_told : (given : Row) (u : Unit {0}) {es : List Event} {t : Tally} → Tallied revenues row es t → Tallied revenues row (year given (Ok u) ∷ es) (with_year given t)
   year_told given u {es} {t} i =
-      let e = filed given (Ok u) in
+      let e = year given (Ok u) in
       unclosed e {es = es} {t = t} (with_year given t) refl i refl refl refl refl (omega arith) (three given.figures) refl
       (λ p low high. i.given p low high ∙ sym (no_reading e es p refl))
       (λ p low high. i.released p low high ∙ sym (no_payment e es p refl))
 
-  meter_told : (r : Reading) (u : Unit {0}) {es : List Event} {t : Tally} → Tallied revenues row es t → Tallied revenues row (metered r (Ok u) ∷ es) (with_dues r.number (due_after row es r) t)
+  meter_told : (r : Reading) (u : ℕ) {es : List Event} {t : Tally} → Tallied revenues row es t → Tallied revenues row (meter r (Ok u) ∷ es) (with_dues r.number (due_after row es r) t)
   meter_told r u {es} {t} i =
-      let e = metered r (Ok u) in
+      let e = meter r (Ok u) in
       let n = due_after row es r in
       unclosed e {es = es} {t = t} (with_dues r.number n t) refl i refl refl refl refl refl (λ j h. i.yearly j h ∙ sym (no_year e es j refl)) (more_long t.places r.number n 0) given
       (λ p low high. sum_more (λ x. x.released) 0 t.places r.number p n 0 (λ x. refl) i.long low high ∙ nothing_more _ (eqb r.number p) ∙ i.released p low high ∙ sym (no_payment e es p refl))
@@ -149,13 +149,13 @@ module _ (revenues : ℕ) (few : revenues ≤ 3) (row : List Meaning) where
       counted p true is = subst (λ q. given_at (at_place row q) (accepted_at q es) + due ≡ given_at (at_place row q) (accepted_at q es ++ r ∷ [])) (eqb-true r.number p is) (sym (given_at_more (at_place row r.number) (accepted_at r.number es) r))
       counted p false is = omega arith ∙ ap (given_at (at_place row p)) (sym (append-nil (accepted_at p es)))
 
-      given : (p : ℕ) → 1 ≤ p → p ≤ place_limit → (place_at (with_dues r.number due t) (p - 1)).given ≡ given_at (at_place row p) (accepted_at p (metered r (Ok u) ∷ es))
+      given : (p : ℕ) → 1 ≤ p → p ≤ place_limit → (place_at (with_dues r.number due t) (p - 1)).given ≡ given_at (at_place row p) (accepted_at p (meter r (Ok u) ∷ es))
       given p low high =
           sum_more (λ x. x.given) due t.places r.number p due 0 (λ x. refl) i.long low high ∙ ap (λ x. x + cond (eqb r.number p) due 0) (i.given p low high) ∙ counted p (eqb r.number p) refl
 
-  close_told : (readings deliveries : ℕ) (s s' : Sheet) (u : Unit {0}) {es : List Event} {t : Tally} → Tallied revenues row es t → Tallied revenues row (closed readings deliveries s (Ok u) s' ∷ es) (with_sheet revenues s' t)
+  close_told : (readings deliveries : ℕ) (s s' : Sheet) (u : Unit {0}) {es : List Event} {t : Tally} → Tallied revenues row es t → Tallied revenues row (close readings deliveries s (Ok u) s' ∷ es) (with_sheet revenues s' t)
   close_told readings deliveries s s' u {es} {t} i =
-      let e = closed readings deliveries s (Ok u) s' in
+      let e = close readings deliveries s (Ok u) s' in
       record {
         bills = ap (λ n. n + bills_on s') i.bills;
         margins = ap (λ z. z +ℤ s'.margin) i.margins;
@@ -170,9 +170,9 @@ module _ (revenues : ℕ) (few : revenues ≤ 3) (row : List Meaning) where
         released = λ p low high. i.released p low high ∙ sym (no_payment e es p refl);
       }
 
-  release_told : (o : PayOrder) (paid : Paid) {es : List Event} {t : Tally} → paid ≡ record { place = o.place; cents = o.cents } → Tallied revenues row es t → Tallied revenues row (released o (Ok paid) ∷ es) (with_payment paid.place paid.cents t)
+  release_told : (o : PayOrder) (paid : Paid) {es : List Event} {t : Tally} → paid ≡ record { place = o.place; cents = o.cents } → Tallied revenues row es t → Tallied revenues row (release o (Ok paid) ∷ es) (with_payment paid.place paid.cents t)
   release_told o paid {es} {t} same i =
-      let e = released o (Ok paid) in
+      let e = release o (Ok paid) in
       unclosed e {es = es} {t = t} (with_payment paid.place paid.cents t) refl i refl refl refl refl (omega arith) (λ j h. i.yearly j h ∙ sym (no_year e es j refl)) (more_long t.places paid.place 0 paid.cents)
       (λ p low high. sum_more (λ x. x.given) 0 t.places paid.place p 0 paid.cents (λ x. refl) i.long low high ∙ nothing_more _ (eqb paid.place p) ∙ i.given p low high ∙ sym (no_reading e es p refl))
       (λ p low high.
@@ -184,47 +184,47 @@ module _ (revenues : ℕ) (few : revenues ≤ 3) (row : List Meaning) where
     told : (c : Call) (e : Event) (hand hand' : List (Option PayOrder)) {es : List Event} {w : View} {t : Tally} → Makes c hand others e hand' → Run shape market row serial (e ∷ es) (in_slots hand') w → Tallied revenues row es t → Tallied revenues row (e ∷ es) (taken revenues c (answer_to row es e) t)
     told (Year given) e hand hand' {es} {t = t} (r, same, rest) run i = subst (λ e. Tallied revenues row (e ∷ es) (taken revenues (Year given) (answer_to row es e) t)) (sym same) (by r)
       where
-        by : (r : Result (Unit {0}) Refusal) → Tallied revenues row (filed given r ∷ es) (taken revenues (Year given) (answer_to row es (filed given r)) t)
+        by : (r : Result (Unit {0}) Refusal) → Tallied revenues row (year given r ∷ es) (taken revenues (Year given) (answer_to row es (year given r)) t)
         by (Ok u) = year_told given u i
-        by (Err why) = quiet (filed given (Err why)) refl refl refl refl i
+        by (Err why) = quiet (year given (Err why)) refl refl refl refl i
     told (Tariff given) e hand hand' {es} {t = t} (r, same, rest) run i = subst (λ e. Tallied revenues row (e ∷ es) (taken revenues (Tariff given) (answer_to row es e) t)) (sym same) (by r)
       where
-        by : (r : Result (Unit {0}) Refusal) → Tallied revenues row (priced given r ∷ es) (taken revenues (Tariff given) (answer_to row es (priced given r)) t)
-        by (Ok u) = quiet (priced given (Ok u)) refl refl refl refl i
-        by (Err why) = quiet (priced given (Err why)) refl refl refl refl i
+        by : (r : Result (Unit {0}) Refusal) → Tallied revenues row (tariff given r ∷ es) (taken revenues (Tariff given) (answer_to row es (tariff given r)) t)
+        by (Ok u) = quiet (tariff given (Ok u)) refl refl refl refl i
+        by (Err why) = quiet (tariff given (Err why)) refl refl refl refl i
     told (Meter given) e hand hand' {es} {t = t} (r, same, rest) run i = subst (λ e. Tallied revenues row (e ∷ es) (taken revenues (Meter given) (answer_to row es e) t)) (sym same) (by r)
       where
-        by : (r : Result (Unit {0}) Refusal) → Tallied revenues row (metered given r ∷ es) (taken revenues (Meter given) (answer_to row es (metered given r)) t)
+        by : (r : Result ℕ Refusal) → Tallied revenues row (meter given r ∷ es) (taken revenues (Meter given) (answer_to row es (meter given r)) t)
         by (Ok u) = meter_told given u i
-        by (Err why) = quiet (metered given (Err why)) refl refl refl refl i
+        by (Err why) = quiet (meter given (Err why)) refl refl refl refl i
     told (Deliver given) e hand hand' {es} {t = t} (r, same, rest) run i = subst (λ e. Tallied revenues row (e ∷ es) (taken revenues (Deliver given) (answer_to row es e) t)) (sym same) (by r)
       where
-        by : (r : Result (Unit {0}) Refusal) → Tallied revenues row (delivered given r ∷ es) (taken revenues (Deliver given) (answer_to row es (delivered given r)) t)
-        by (Ok u) = quiet (delivered given (Ok u)) refl refl refl refl i
-        by (Err why) = quiet (delivered given (Err why)) refl refl refl refl i
+        by : (r : Result (Unit {0}) Refusal) → Tallied revenues row (deliver given r ∷ es) (taken revenues (Deliver given) (answer_to row es (deliver given r)) t)
+        by (Ok u) = quiet (deliver given (Ok u)) refl refl refl refl i
+        by (Err why) = quiet (deliver given (Err why)) refl refl refl refl i
     told (Close stated) e hand hand' {es} {t = t} (r, s, s', same, rest) run i = subst (λ e. Tallied revenues row (e ∷ es) (taken revenues (Close stated) (answer_to row es e) t)) (sym same) (by r)
       where
-        by : (r : Result (Unit {0}) Refusal) → Tallied revenues row (closed stated.readings stated.deliveries s r s' ∷ es) (taken revenues (Close stated) (answer_to row es (closed stated.readings stated.deliveries s r s')) t)
+        by : (r : Result (Unit {0}) Refusal) → Tallied revenues row (close stated.readings stated.deliveries s r s' ∷ es) (taken revenues (Close stated) (answer_to row es (close stated.readings stated.deliveries s r s')) t)
         by (Ok u) = close_told stated.readings stated.deliveries s s' u i
-        by (Err why) = quiet (closed stated.readings stated.deliveries s (Err why) s') refl refl refl refl i
+        by (Err why) = quiet (close stated.readings stated.deliveries s (Err why) s') refl refl refl refl i
     told (Draw place) e hand hand' {es} {t = t} (r, same, rest) run i = subst (λ e. Tallied revenues row (e ∷ es) (taken revenues (Draw place) (answer_to row es e) t)) (sym same) (by r)
       where
-        by : (r : Result PayOrder Refusal) → Tallied revenues row (drew place r ∷ es) (taken revenues (Draw place) (answer_to row es (drew place r)) t)
-        by (Ok o) = quiet (drew place (Ok o)) refl refl refl refl i
-        by (Err why) = quiet (drew place (Err why)) refl refl refl refl i
+        by : (r : Result PayOrder Refusal) → Tallied revenues row (draw place r ∷ es) (taken revenues (Draw place) (answer_to row es (draw place r)) t)
+        by (Ok o) = quiet (draw place (Ok o)) refl refl refl refl i
+        by (Err why) = quiet (draw place (Err why)) refl refl refl refl i
     told (Present Release which) e hand hand' {es} {w = w} {t = t} (o, r, there, same, rest) run i = subst (λ e. Run shape market row serial (e ∷ es) (in_slots hand') w → Tallied revenues row (e ∷ es) (taken revenues (Present Release which) (answer_to row es e) t)) (sym same) (by r) run
       where
-        by : (r : Result Paid Returned) → Run shape market row serial (released o r ∷ es) (in_slots hand') w → Tallied revenues row (released o r ∷ es) (taken revenues (Present Release which) (answer_to row es (released o r)) t)
+        by : (r : Result Paid Returned) → Run shape market row serial (release o r ∷ es) (in_slots hand') w → Tallied revenues row (release o r ∷ es) (taken revenues (Present Release which) (answer_to row es (release o r)) t)
         by (Ok paid) run = release_told o paid (payment run) i
           where
-            payment : {hs : List PayOrder} → Run shape market row serial (released o (Ok paid) ∷ es) hs w → paid ≡ record { place = o.place; cents = o.cents }
-            payment (runs.release before presents m) = m.released.1
-        by (Err back) run = quiet (released o (Err back)) refl refl refl refl i
+            payment : {hs : List PayOrder} → Run shape market row serial (release o (Ok paid) ∷ es) hs w → paid ≡ record { place = o.place; cents = o.cents }
+            payment (runs.step _ rest before m presents) = m.released.1
+        by (Err back) run = quiet (release o (Err back)) refl refl refl refl i
     told (Present Hold which) e hand hand' {es} {t = t} (o, r, there, same, rest) run i = subst (λ e. Tallied revenues row (e ∷ es) (taken revenues (Present Hold which) (answer_to row es e) t)) (sym same) (by r)
       where
-        by : (r : Result (Unit {0}) Returned) → Tallied revenues row (held o r ∷ es) (taken revenues (Present Hold which) (answer_to row es (held o r)) t)
-        by (Ok u) = quiet (held o (Ok u)) refl refl refl refl i
-        by (Err back) = quiet (held o (Err back)) refl refl refl refl i
+        by : (r : Result (Unit {0}) Returned) → Tallied revenues row (hold o r ∷ es) (taken revenues (Present Hold which) (answer_to row es (hold o r)) t)
+        by (Ok u) = quiet (hold o (Ok u)) refl refl refl refl i
+        by (Err back) = quiet (hold o (Err back)) refl refl refl refl i
 
     -- each call has one answer
     pub as_many : {cs : List Call} {answers : List Answer} {es : List Event} {hand : List (Option PayOrder)} {v : View} → History shape market row serial others cs answers es hand v → length cs ≡ length answers

@@ -1,6 +1,6 @@
 -- How large a tally's sums may be.
 use Rattle.std.specs.Prelude.{ℕ, ◌+◌, ◌^◌, ◌<◌, ◌≤◌, unsigned_abs}
-use Rattle.orders.specs.Limits.{place_limit}
+use Rattle.metering.specs.Limits.{place_limit}
 use Rattle.statement.specs.declared.tally.PlaceTally.{PlaceTally}
 use Rattle.statement.specs.declared.tally.Tally.{Tally}
 use Rattle.statement.specs.Tallies.{place_at}

@@ -5,11 +5,11 @@ use Rattle.accounts.specs.declared.sheet.Sheet.{Sheet}
 use Rattle.accounts.specs.Sums.{sum_to}
 use Rattle.tariffs.specs.declared.row.Row.{Row}
 use Rattle.settlement.specs.Law.{bills_on}
-use Rattle.orders.specs.Limits.{place_limit}
+use Rattle.metering.specs.Limits.{place_limit}
 use Rattle.history.specs.declared.call.Call.{Call}
-use Rattle.history.specs.declared.call.Call.TheVariants.{Year, Tariff, Meter, Deliver, Close, Draw, Present}
+use Rattle.history.specs.declared.call.Call.TheVariants.{Year, Meter}
 use Rattle.history.specs.declared.answer.Answer.{Answer}
-use Rattle.history.specs.declared.answer.Answer.TheVariants.{Accepted, Metered, Closed, Drawn, Paid, Refused, Returned, Absent}
+use Rattle.history.specs.declared.answer.Answer.TheVariants.{Accepted, Metered, Closed, Paid}
 use Rattle.statement.specs.declared.tally.PlaceTally.{PlaceTally}
 use Rattle.statement.specs.declared.tally.Tally.{Tally}
 
@@ -34,56 +34,45 @@ abbrev pub more_at : List PlaceTally → ℕ → ℕ → ℕ → List PlaceTally
 more_at xs place given released =
     cond (nat_le 1 place && nat_le place place_limit) (slice_set xs (place - 1) (plus (slice_index_or xs (place - 1) no_tally) given released)) xs
 
+-- the cents that yearly revenues allow in a month
+abbrev pub shares_in : ℕ → List ℕ → ℕ → ℕ
+shares_in revenues yearly month = sum_to (λ j. month-share (slice_index yearly j) month) revenues
+
 -- a year is filed
 abbrev pub with_year : Row → Tally → Tally
 with_year given t =
-    record { bills = t.bills; margins = t.margins; unsettled = t.unsettled; dues = t.dues; shares = t.shares; yearly = slice_index given.figures 0 ∷ slice_index given.figures 1 ∷ slice_index given.figures 2 ∷ []; places = t.places }
+    record t { yearly = slice_index given.figures 0 ∷ slice_index given.figures 1 ∷ slice_index given.figures 2 ∷ [] }
 
 -- a reading has its dues
 abbrev pub with_dues : ℕ → ℕ → Tally → Tally
-with_dues place n t =
-    record { bills = t.bills; margins = t.margins; unsettled = t.unsettled + n; dues = t.dues; shares = t.shares; yearly = t.yearly; places = more_at t.places place n 0 }
+with_dues place n t = record t { unsettled = t.unsettled + n; places = more_at t.places place n 0 }
 
 -- a month is closed: its shares are those of the year in force
 abbrev pub with_sheet : ℕ → Sheet → Tally → Tally
 with_sheet revenues s t =
-    record { bills = t.bills + bills_on s; margins = t.margins +ℤ s.margin; unsettled = 0; dues = t.dues + t.unsettled; shares = t.shares + sum_to (λ j. month-share (slice_index t.yearly j) s.month) revenues; yearly = t.yearly; places = t.places }
+    record t { bills = t.bills + bills_on s; margins = t.margins +ℤ s.margin; unsettled = 0; dues = t.dues + t.unsettled; shares = t.shares + shares_in revenues t.yearly s.month }
 
 -- an order is released
 abbrev pub with_payment : ℕ → ℕ → Tally → Tally
-with_payment place cents t =
-    record { bills = t.bills; margins = t.margins; unsettled = t.unsettled; dues = t.dues; shares = t.shares; yearly = t.yearly; places = more_at t.places place 0 cents }
+with_payment place cents t = record t { places = more_at t.places place 0 cents }
 
 -- an accepted call that says no more than that
 abbrev pub with_accepted : Call → Tally → Tally
 with_accepted (Year given) t = with_year given t
-with_accepted (Tariff given) t = t
-with_accepted (Meter given) t = t
-with_accepted (Deliver given) t = t
-with_accepted (Close stated) t = t
-with_accepted (Draw place) t = t
-with_accepted (Present how which) t = t
+with_accepted _ t = t
 
 -- a call whose answer tells dues
 abbrev pub with_metered : Call → ℕ → Tally → Tally
-with_metered (Year given) n t = t
-with_metered (Tariff given) n t = t
 with_metered (Meter given) n t = with_dues given.number n t
-with_metered (Deliver given) n t = t
-with_metered (Close stated) n t = t
-with_metered (Draw place) n t = t
-with_metered (Present how which) n t = t
+with_metered _ n t = t
 
 -- after one call more
 abbrev pub taken : ℕ → Call → Answer → Tally → Tally
 taken revenues c Accepted t = with_accepted c t
 taken revenues c (Metered n) t = with_metered c n t
 taken revenues c (Closed s) t = with_sheet revenues s t
-taken revenues c (Drawn place cents) t = t
 taken revenues c (Paid place cents) t = with_payment place cents t
-taken revenues c (Refused why) t = t
-taken revenues c Returned t = t
-taken revenues c Absent t = t
+taken revenues c _ t = t
 
 -- after all of them
 unfoldable pub tallied : ℕ → List Call → List Answer → Tally → Tally

@@ -1,7 +1,7 @@
 -- The lines of a statement.
 use Rattle.std.specs.Prelude.{ℕ, ◌+◌, List, ◌++◌, ℤ, codes, decimal}
 use Rattle.std.specs.Fmt.{signed_decimal}
-use Rattle.statement.specs.declared.account.Account.{Account}
+use Rattle.statement.specs.declared.account.AccountTotals.{AccountTotals}
 use Rattle.statement.specs.declared.money.PlaceMoney.{PlaceMoney}
 use Rattle.statement.specs.Totals.{covered_by, costs_by}
 
@@ -13,21 +13,21 @@ abbrev signed_figure : List ℕ → ℤ → List ℕ
 signed_figure word z = word ++ signed_decimal z
 
 -- what the licensees were billed and still owe
-abbrev pub licensees_text : Account → List ℕ
+abbrev pub licensees_text : AccountTotals → List ℕ
 licensees_text a = figure (codes "bills ") a.bills ++ figure (codes " fractions ") a.fractions
 
 -- what the heads hold, and what the intervals kept
-abbrev pub heads_text : Account → List ℕ
+abbrev pub heads_text : AccountTotals → List ℕ
 heads_text a =
     signed_figure (codes "balances ") a.balances ++ (figure (codes " carries ") a.carries ++ signed_figure (codes " margins ") a.margins)
 
 -- what is to be paid for
-abbrev pub costs_text : Account → List ℕ
+abbrev pub costs_text : AccountTotals → List ℕ
 costs_text a =
     figure (codes "dues ") a.dues ++ (figure (codes " revenues ") a.revenues ++ figure (codes " sum ") (costs_by a))
 
 -- a line for each side
-abbrev pub account_text : Account → List ℕ
+abbrev pub account_text : AccountTotals → List ℕ
 account_text a =
     codes "account "
     ++ (licensees_text a

@@ -3,11 +3,11 @@
 
 pub mod account;
 pub mod money;
-pub mod stated;
+mod sources;
+pub mod statement;
 pub mod tally;
 mod total;
 
-pub use account::Account;
+pub use account::AccountTotals;
 pub use money::PlaceMoney;
-pub use stated::Statement;
-pub use stated::making::statement;
+pub use statement::Statement;

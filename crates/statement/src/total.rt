@@ -1,6 +1,6 @@
 //! Sums over a few of anything.
-ghost use Rattle.std.specs.Prelude.{◌≡◌, ℕ, ◌^◌, ◌≤◌, length};
-ghost use Rattle.std.specs.List.{sum_by};
+ghost use Rattle.std.specs.Prelude.{◌^◌, ◌≤◌, length};
+ghost use Rattle.statement.specs.Totals.{SumsBy};
 
 /// What a few items amount to together. There are at most eight, as many as a market has licensees.
 #[derive(Clone, Copy)]
@@ -14,9 +14,8 @@ impl Total {
     pub fn of<T, F: Fn(&T) -> u64>(items: &[T], amount: F) -> Total
         requires few { length items.now ≤ 8 }
         requires callable { F.IsAlwaysCallable amount }
-        ensures { (each : T → ℕ) → ((x : _) (n : ℕ) → F.post amount x n → n ≡ each x.now) → result.sum ≡ sum_by each items.now }
+        ensures { SumsBy (F.post amount) items.now result.sum }
     {
-        // Tried as a chain: for a `sum` by a closure the check has no bound.
         let mut sum = 0;
         for item in items {
             sum += u128::from(amount(item));

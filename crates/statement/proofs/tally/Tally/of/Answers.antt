@@ -2,7 +2,7 @@ use Rattle.std.proofs.Common.{◌≡◌, ◌+◌, ◌*◌, [], ◌∷◌, ◌++�
 use Rattle.std.proofs.lemmas.List.{get_or-replicate}
 use Rattle.std.proofs.lemmas.Slice.Zip.{zip_turn}
 use Rattle.statement.specs.declared.tally.PlaceTally.{PlaceTally}
-use Rattle.orders.specs.Limits.{place_limit}
+use Rattle.metering.specs.Limits.{place_limit}
 use Rattle.statement.specs.Tallies.{nothing, no_tally, taken}
 use Rattle.statement.specs.Bounds.{turn, Small, Within}
 use Rattle.statement.proofs.Tallying.{tallied_none, tallied_next}

@@ -1,8 +1,8 @@
 use Rattle.std.proofs.Common.{◌+◌, arith, rules}
 use Rattle.settlement.proofs.Made.{each_made}
 use Rattle.statement.specs.Sums.{Holds}
-use Rattle.statement.specs.Statements.{no_money}
-use Rattle.statement.proofs.stated.sources.Sources.places.Goals as goal
+use Rattle.statement.specs.Sums.{no_money}
+use Rattle.statement.proofs.sources.Sources.places.Goals as goal
 
 pub returns : goal.returns
 returns c k h =

@@ -1,7 +1,7 @@
 use Rattle.std.proofs.Common.{◌∙◌, None, rules}
 use Rattle.settlement.specs.Law.{bill_of}
 use Rattle.statement.proofs.Summing.{sum_by_all}
-use Rattle.statement.proofs.tally.adding.bills_on.Goals as goal
+use Rattle.statement.proofs.tally.bills_on.Goals as goal
 
 pub returns : goal.returns
 returns c =

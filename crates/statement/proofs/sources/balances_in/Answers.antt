@@ -4,7 +4,7 @@ use Rattle.std.proofs.lemmas.Int.{ints}
 use Rattle.accounts.specs.declared.account.Account.{Account}
 use Rattle.accounts.specs.Books.{no_account, account_at}
 use Rattle.accounts.proofs.Sums.{sumℤ_none, sumℤ_next}
-use Rattle.statement.proofs.stated.making.balances_in.Goals as goal
+use Rattle.statement.proofs.sources.balances_in.Goals as goal
 
 pub loop-account-init : goal.loop-account-init
 loop-account-init c = (sym (sumℤ_none (λ k. (account_at c.args.books.now k).balance)), omega arith)

@@ -1,7 +1,7 @@
 use Rattle.std.proofs.Common.{◌≡◌, ◌*◌, ◌^◌, ◌≤◌, nat_abs}
 use Rattle.accounts.specs.Books.{account_at}
 use Rattle.accounts.specs.Sums.{sum_toℤ}
-use Rattle.statement.proofs.stated.making.balances_in.Given as goal
+use Rattle.statement.proofs.sources.balances_in.Given as goal
 
 abbrev pub invariant-loop-account : goal.invariant-loop-account
 invariant-loop-account l =

@@ -2,7 +2,7 @@ use Rattle.std.proofs.Common.{◌∙◌, rules, arith}
 use Rattle.accounts.specs.declared.account.Account.{Account}
 use Rattle.accounts.specs.Books.{no_account}
 use Rattle.statement.proofs.Summing.{sum_by_first}
-use Rattle.statement.proofs.stated.making.carries_in.Goals as goal
+use Rattle.statement.proofs.sources.carries_in.Goals as goal
 
 pub returns : goal.returns
 returns c =

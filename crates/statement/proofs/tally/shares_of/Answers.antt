@@ -1,7 +1,7 @@
 use Rattle.std.proofs.Common.{◌∙◌, rules, arith}
 use Rattle.arith.specs.Months.{share}
 use Rattle.statement.proofs.Summing.{sum_by_first}
-use Rattle.statement.proofs.tally.adding.shares_of.Goals as goal
+use Rattle.statement.proofs.tally.shares_of.Goals as goal
 
 pub returns : goal.returns
 returns c =

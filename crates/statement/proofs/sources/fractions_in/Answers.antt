@@ -1,6 +1,6 @@
 use Rattle.std.proofs.Common.{◌∙◌, rules}
 use Rattle.statement.proofs.Summing.{sum_by_all}
-use Rattle.statement.proofs.stated.making.fractions_in.Goals as goal
+use Rattle.statement.proofs.sources.fractions_in.Goals as goal
 
 pub returns : goal.returns
 returns c =

@@ -1,13 +1,13 @@
 use Rattle.std.proofs.Common.{◌≡◌, ◌+◌, ◌-◌, get_or, ap, ◌∙◌, subst, arith}
-use Rattle.ledger.specs.declared.kept.Ledger.{Ledger}
+use Rattle.ledger.specs.declared.ledger.Ledger.{Ledger}
 use Rattle.ledger.specs.Views.{till_of}
 use Rattle.history.specs.Slots.{slots_of}
 use Rattle.house.specs.Shown.{shows}
 use Rattle.statement.specs.Tallies.{nothing, tallied}
-use Rattle.statement.specs.Sums.{Sums, Holds}
-use Rattle.statement.specs.Statements.{no_money}
+use Rattle.statement.specs.Sums.{no_money, Sums, Holds}
+use Rattle.statement.specs.Sums.{no_money}
 use Rattle.statement.proofs.Stating.{stated}
-use Rattle.statement.proofs.stated.making.statement.Goals as goal
+use Rattle.statement.proofs.statement.Statement.of.Goals as goal
 
 pub returns-clause-stated : goal.returns-clause-stated
 returns-clause-stated g c market row serial others =
