@@ -1,5 +1,6 @@
 -- Figures: words of decimal digits.
 use Rattle.std.specs.Prelude.{◌≡◌, ℕ, ◌^◌, min, Bool, true, cond, ◌&&◌, List, length, Some, None, Option, nat_le, nat_lt}
+use Rattle.std.specs.Borrow.{Bor}
 use Rattle.std.specs.List.{list_all}
 use Rattle.std.specs.Str.Parse.{digits_value}
 
@@ -14,8 +15,8 @@ abbrev pub is_figure : List ℕ → Bool
 is_figure w = nat_lt 0 (length w) && all_digits w
 
 -- the text of a word that is a figure
-abbrev pub FigureText : List ℕ → List ℕ → Type 0
-FigureText w text = (is_figure w ≡ true) × (text ≡ w)
+abbrev pub FigureText : List ℕ → Bor (List ℕ) → Type 0
+FigureText w text = (is_figure w ≡ true) × (text.now ≡ w)
 
 -- the number that a figure writes, held to the top
 abbrev pub held : ℕ → List ℕ → Option ℕ

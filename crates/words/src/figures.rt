@@ -11,7 +11,7 @@ pub fn is_figure(word: &[u8]) -> bool
 
 /// The digits of a figure, as a text.
 fn digits(word: &[u8]) -> Option<&str>
-    ensures { MatchOption result (is_figure word.now ≡ false) (λ text. FigureText word.now text.now) }
+    ensures { MatchOption result (is_figure word.now ≡ false) (FigureText word.now) }
 {
     if is_figure(word) {
         str::from_utf8(word).ok()

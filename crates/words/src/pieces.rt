@@ -42,7 +42,7 @@ pub fn without_comment(line: &[u8]) -> &[u8]
 
 /// The first word of a line, and what is behind it.
 pub fn next_word(line: &[u8]) -> Option<(&[u8], &[u8])>
-    ensures { MatchOption result (first_word line.now ≡ []) (λ p. TakesWord line.now p.0.now p.1.now) }
+    ensures { MatchOption result (first_word line.now ≡ []) (TakesWord line.now) }
 {
     let (_, words) = cut(line, |byte| !is_blank(byte));
     let (word, behind) = cut(words, is_blank);
