@@ -1,5 +1,5 @@
 -- How a month grows, reading by reading.
-use Rattle.std.specs.Prelude.{◌≡◌, ℕ, ◌+◌, ◌-◌, ◌<◌, Bool, true, false, cond, ◌&&◌, is_some, Some, None, Ok, Err, Option, Result, ◌≢◌, nat_le, nat_lt, slice_index, slice_index_or, slice_set}
+use Rattle.std.specs.Prelude.{◌≡◌, ℕ, ◌+◌, ◌-◌, ◌<◌, Bool, true, false, cond, ◌&&◌, List, is_some, Some, None, Ok, Err, Option, Result, MatchResult, ◌≢◌, nat_le, nat_lt, slice_index, slice_index_or, slice_set}
 use Rattle.metering.specs.declared.reading.Reading.{Reading}
 use Rattle.metering.specs.Limits.{licensee_limit}
 use Rattle.methodology.specs.Limits.{head_limit}
@@ -15,7 +15,7 @@ use Rattle.accounts.specs.declared.month.Undelivered.TheVariants as delivery
 use Rattle.accounts.specs.Sums.{sum_to}
 use Rattle.accounts.specs.Counts.{count_true, count_some}
 use Rattle.accounts.specs.Rules.{Rules, head_count}
-use Rattle.accounts.specs.Tables.{under}
+use Rattle.accounts.specs.Tables.{ByHead, under_by}
 
 -- the licensee at place l of the list, which counts from 0
 abbrev pub licensee_at : Month → ℕ → Option Delivery
@@ -59,10 +59,17 @@ pub record Opened (m : Month) : Type 0 where
   pub readings : readings_in m ≡ 0
   pub deliveries : deliveries_in m ≡ 0
 
+-- the income by head with a reading's dues, and the energy sent in by head with the reading's
+abbrev pub IncomeWith : Rules → Month → Dues → List ℕ → Type 0
+IncomeWith r m dues income = ByHead income (λ k. slice_index m.income k + under_by r (capacity_due dues) 0 dues.blocks k)
+
+abbrev pub SentWith : Rules → Month → Reading → List ℕ → Type 0
+SentWith r m reading sent = ByHead sent (λ k. slice_index m.sent k + under_by r 0 0 reading.blocks k)
+
 -- a generator's month more; every grain comes in, its capacity due and all of its blocks
 pub record Generated (r : Rules) (before : Month) (reading : Reading) (dues : Dues) (after : Month) : Type 0 where
-  pub income : (k : ℕ) → k < head_limit → slice_index after.income k ≡ slice_index before.income k + under r.revenues r.interval (capacity_due dues) 0 dues.blocks k
-  pub sent : (k : ℕ) → k < head_limit → slice_index after.sent k ≡ slice_index before.sent k + under r.revenues r.interval 0 0 reading.blocks k
+  pub income : IncomeWith r before dues after.income
+  pub sent : SentWith r before reading after.sent
   pub read : after.read ≡ slice_set before.read (reading.number - 1) true
   pub licensees : after.licensees ≡ before.licensees
   pub whole : income_of r after ≡ income_of r before + capacity_due dues + block_sum dues
@@ -73,7 +80,7 @@ pub record Delivered (r : Rules) (before : Month) (reading : Reading) (after : M
   pub income : after.income ≡ before.income
   pub sent : after.sent ≡ before.sent
   pub read : after.read ≡ before.read
-  pub here : Took (licensee_at after (reading.number - 1)) (under r.revenues r.interval reading.demand reading.demand reading.blocks)
+  pub here : Took (licensee_at after (reading.number - 1)) (under_by r reading.demand reading.demand reading.blocks)
   pub others : (l : ℕ) → (l ≢ reading.number - 1) → licensee_at after l ≡ licensee_at before l
   pub deliveries : deliveries_in after ≡ deliveries_in before + 1
 
@@ -87,3 +94,12 @@ reading_answer m reading dues =
 abbrev pub delivery_answer : Month → Reading → Result (Unit {0}) Undelivered
 delivery_answer m reading =
     cond (nat_lt licensee_limit reading.number) (Err delivery.NoLicensee) (cond (delivered_at m reading.number) (Err delivery.Again) (Ok tt))
+
+-- adding a reading: what is answered, and the month after it, which a refusal leaves as it was
+pub record Adds (r : Rules) (m : Month) (reading : Reading) (dues : Dues) (answer : Result (Unit {0}) Unadded) (m' : Month) : Type 0 where
+  pub answered : answer ≡ reading_answer m reading dues
+  pub after : MatchResult answer (λ _. Generated r m reading dues m') (λ _. m' ≡ m)
+
+pub record Delivers (r : Rules) (m : Month) (reading : Reading) (answer : Result (Unit {0}) Undelivered) (m' : Month) : Type 0 where
+  pub answered : answer ≡ delivery_answer m reading
+  pub after : MatchResult answer (λ _. Delivered r m reading m') (λ _. m' ≡ m)

@@ -3,6 +3,7 @@ use Rattle.std.specs.Prelude.{ℕ, ◌+◌, ◌<◌, ◌≤◌}
 use Rattle.metering.specs.Limits.{block_count}
 use Rattle.methodology.specs.Limits.{head_limit, supply_limit, factor_limit}
 use Rattle.methodology.specs.Meaning.{Meaning, UpTo, OneToTwo}
+use Rattle.methodology.specs.declared.rules.Methodology.{Ghosts}
 use Rattle.methodology.specs.declared.shape.Shape.{Shape}
 
 -- how many revenues and intervals there are, the interval of a block, an interval's allowed supply
@@ -14,6 +15,9 @@ pub record Rules : Type 0 where
 
 abbrev pub rules_of : Shape → Meaning → Rules
 rules_of s m = record { revenues = s.revenues; intervals = s.intervals; interval = m.interval; allowed = m.allowed }
+
+abbrev pub rules_by : {M : Type 0} → Ghosts M → M → Rules
+rules_by methodology m = rules_of methodology.shape (methodology.meaning m)
 
 -- generation, the revenues, the intervals
 abbrev pub head_count : Rules → ℕ

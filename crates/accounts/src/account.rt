@@ -1,20 +1,20 @@
-//! What lasts under a head from month to month.
+//! The account of a head.
 ghost use Rattle.std.specs.Prelude.{◌*◌, ◌≤◌, unsigned_abs};
 ghost use Rattle.accounts.specs.Limits.{balance_limit, carry_limit};
 
 /// Most that a balance may be in size, grains: well within 64 bits.
 pub const BALANCE_LIMIT: u64 = 4_000_000_000_000_000_000;
 
-/// A head's account, in grains; a grain is 1/10,000 of a cent.
+/// What a head keeps from month to month, in grains.
 #[derive(Clone, Copy)]
 pub struct Account {
-    /// What the transactions account holds: the differences of all closed months.
+    /// The differences of all closed months: above 0 where the licensees were billed too little.
     pub balance: i64,
     /// The balance when this tariff period began.
     pub opening: i64,
     /// The sum of differences of the period before this one.
     pub before: i64,
-    /// What the last closing could not spread.
+    /// What the last closing could not spread: less than a grain for each unit of the quantity. The next one spreads it.
     pub carry: u64,
     ghost held: { unsigned_abs balance ≤ balance_limit },
     ghost opened: { unsigned_abs opening ≤ balance_limit },

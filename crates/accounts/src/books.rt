@@ -1,4 +1,4 @@
-//! What lasts from month to month.
+//! The books: what lasts from month to month.
 ghost use Rattle.std.specs.Prelude.{◌≡◌, ℕ, ◌<◌, length, slice_index};
 ghost use Rattle.metering.specs.Limits.{licensee_limit};
 ghost use Rattle.methodology.specs.Limits.{head_limit};
@@ -8,7 +8,7 @@ use crate::account::Account;
 use metering::LICENSEE_COUNT;
 use rates::HEADS;
 
-/// The heads' accounts, head 1 first, and each licensee's fraction of a cent, in grains, licensee 1 first.
+/// The heads' accounts, head 1 first, and what each licensee owes of a cent that is not yet billed, in grains, licensee 1 first.
 #[derive(Clone, Copy)]
 pub struct Books {
     pub accounts: [Account; HEADS],

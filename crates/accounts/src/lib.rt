@@ -1,4 +1,4 @@
-//! The account in plain numbers: the heads' accounts, the licensees' fractions, the open month, the sheet.
+//! What a house keeps: its books, the open month, and the sheet of a closing.
 #![tactic(auto)]
 
 pub mod account;

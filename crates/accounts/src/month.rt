@@ -1,13 +1,12 @@
-//! The open month, as sums.
-ghost use Rattle.std.specs.Prelude.{◌≡◌, ℕ, ◌+◌, ◌*◌, ◌<◌, ◌≤◌, ◌&&◌, false, length, MatchResult, nat_le, slice_index};
+//! The open month: what its readings come to so far.
+ghost use Rattle.std.specs.Prelude.{◌≡◌, ◌*◌, ◌≤◌, ◌&&◌, false, length, nat_le};
 ghost use Rattle.metering.specs.Limits.{block_count, place_limit, licensee_limit, reading_limit};
 ghost use Rattle.methodology.specs.Limits.{head_limit};
 ghost use Rattle.agreements.specs.Limits.{due_limit};
 ghost use Rattle.agreements.specs.Dues.{capacity_due, block_sum};
-ghost use Rattle.accounts.specs.Rules.{rules_of};
-ghost use Rattle.accounts.specs.Sums.{sum_to};
+ghost use Rattle.accounts.specs.Rules.{rules_by};
 ghost use Rattle.accounts.specs.Counts.{count_true};
-ghost use Rattle.accounts.specs.Tables.{under};
+ghost use Rattle.accounts.specs.Tables.{Within, summed};
 
 use crate::delivery::Delivery;
 use crate::tables::{added, by_head, widened};
@@ -17,7 +16,7 @@ use metering::{LICENSEE_COUNT, LICENSEES, PLACE_COUNT, Reading, index_of};
 use methodology::Methodology;
 use rates::HEADS;
 
-/// What the readings of a month come to so far. Tables by head have head 1 first, lists place 1 or licensee 1.
+/// The sums of a month, and which readings they are of. Tables by head have head 1 first, lists place 1 or licensee 1.
 #[derive(Clone, Copy)]
 pub struct Month {
     /// Dues, in grains: for capacity at generation, for blocks at their interval, nothing at the revenues.
@@ -32,13 +31,13 @@ pub struct Month {
     ghost metered: { length sent ≡ head_limit },
     ghost full: { length read ≡ place_limit },
     ghost listed: { length licensees ≡ licensee_limit },
-    ghost earned: { (k : ℕ) → k < head_limit → slice_index income k ≤ count_true read * due_limit },
-    ghost whole: { sum_to (λ k. slice_index income k) head_limit ≤ count_true read * (2 * due_limit) },
-    ghost supplied: { (k : ℕ) → k < head_limit → slice_index sent k ≤ count_true read * reading_limit },
+    ghost earned: { Within (count_true read * due_limit) income },
+    ghost whole: { summed income ≤ count_true read * (2 * due_limit) },
+    ghost supplied: { Within (count_true read * reading_limit) sent },
 }
 
 impl Month {
-    ghost use Rattle.accounts.specs.Months.{Opened, readings_in, deliveries_in, read_at, delivered_at, reading_answer, delivery_answer, Generated, Delivered};
+    ghost use Rattle.accounts.specs.Months.{Opened, readings_in, deliveries_in, read_at, delivered_at, IncomeWith, SentWith, Generated, Delivered, Adds, Delivers};
 
     /// A month without readings.
     pub fn open() -> Month
@@ -96,8 +95,7 @@ impl Month {
         reading: &Reading,
         dues: &Dues,
     ) -> Result<(), Unadded>
-        ensures answered { result ≡ reading_answer self.old reading.now dues.now }
-        ensures after { MatchResult result (λ _. Generated (rules_of M.shape (M.meaning m.now)) self.old reading.now dues.now self.new) (λ _. self.new ≡ self.old) }
+        ensures { Adds (rules_by M.Methodology m.now) self.old reading.now dues.now result self.new }
     {
         if self.is_read(reading.number) {
             return Err(Unadded::Again);
@@ -116,8 +114,7 @@ impl Month {
         m: &M,
         reading: &Reading,
     ) -> Result<(), Undelivered>
-        ensures answered { result ≡ delivery_answer self.old reading.now }
-        ensures after { MatchResult result (λ _. Delivered (rules_of M.shape (M.meaning m.now)) self.old reading.now self.new) (λ _. self.new ≡ self.old) }
+        ensures { Delivers (rules_by M.Methodology m.now) self.old reading.now result self.new }
     {
         if reading.number > LICENSEES {
             return Err(Undelivered::NoLicensee);
@@ -133,7 +130,7 @@ impl Month {
     fn with_reading<M: Methodology>(&self, m: &M, reading: &Reading, dues: &Dues) -> Month
         requires unread { read_at self.now reading.now.number ≡ false }
         requires moderate { (capacity_due dues.now ≤ due_limit) × (block_sum dues.now ≤ due_limit) }
-        ensures { Generated (rules_of M.shape (M.meaning m.now)) self.now reading.now dues.now result }
+        ensures { Generated (rules_by M.Methodology m.now) self.now reading.now dues.now result }
     {
         let mut read = self.read;
         read[usize::from(reading.number) - 1] = true;
@@ -148,7 +145,7 @@ impl Month {
     /// Its income by head, and the dues on top of it.
     fn income_with<M: Methodology>(&self, m: &M, dues: &Dues) -> [u64; HEADS]
         requires { (capacity_due dues.now ≤ due_limit) × (block_sum dues.now ≤ due_limit) }
-        ensures value { (k : ℕ) → k < head_limit → slice_index result k ≡ slice_index self.now.income k + under M.shape.revenues (M.meaning m.now).interval (capacity_due dues.now) 0 dues.now.blocks k }
+        ensures value { IncomeWith (rules_by M.Methodology m.now) self.now dues.now result }
         ensures full { length dues.now.blocks ≡ block_count }
     {
         added(&self.income, &by_head(m, dues.capacity, 0, &dues.blocks))
@@ -156,15 +153,16 @@ impl Month {
 
     /// Its energy sent in by head, and the reading's on top of it.
     fn sent_with<M: Methodology>(&self, m: &M, reading: &Reading) -> [u64; HEADS]
-        ensures { (k : ℕ) → k < head_limit → slice_index result k ≡ slice_index self.now.sent k + under M.shape.revenues (M.meaning m.now).interval 0 0 reading.now.blocks k }
+        ensures { SentWith (rules_by M.Methodology m.now) self.now reading.now result }
     {
         added(&self.sent, &by_head(m, 0, 0, &widened(&reading.blocks)))
     }
 
     /// The month with a licensee's reading.
     fn with_delivery<M: Methodology>(&self, m: &M, reading: &Reading) -> Month
-        requires { (reading.now.number ≤ licensee_limit) × (delivered_at self.now reading.now.number ≡ false) }
-        ensures { Delivered (rules_of M.shape (M.meaning m.now)) self.now reading.now result }
+        requires counted { reading.now.number ≤ licensee_limit }
+        requires undelivered { delivered_at self.now reading.now.number ≡ false }
+        ensures { Delivered (rules_by M.Methodology m.now) self.now reading.now result }
     {
         let demand = u64::from(reading.demand);
         let taken = by_head(m, demand, demand, &widened(&reading.blocks));

@@ -12,7 +12,7 @@ pub struct HeadLine {
     pub carry: u64,
 }
 
-/// A licensee's line: the bill in cents, and the fraction of a cent that is left for the next one, in grains.
+/// A licensee's line: the bill in cents, and the fraction: the grains that are left for the next one, less than a cent.
 #[derive(Clone, Copy)]
 pub struct Billed {
     pub bill: u64,
@@ -20,7 +20,7 @@ pub struct Billed {
 }
 
 /// What a closing writes: the month, 1 to 12, the lines of the heads, head 1 first, and of the licensees, licensee 1 first.
-/// Lines past the heads of the shape are zero, as are all lines of a sheet that no closing has filled.
+/// A closing leaves zeros past the last head of the shape. The text of a sheet does not show these lines, whatever they hold.
 #[derive(Clone, Copy)]
 pub struct Sheet {
     pub month: u8,

@@ -1,8 +1,8 @@
 //! Tables by head: blocks go to the head of their interval.
-ghost use Rattle.std.specs.Prelude.{◌≡◌, ℕ, ◌+◌, ◌^◌, ◌<◌, ◌≤◌, if◌then◌else◌, nat_eq, nat_le, slice_index};
-ghost use Rattle.methodology.specs.Limits.{head_limit};
+ghost use Rattle.std.specs.Prelude.{◌≡◌, ◌+◌, ◌^◌, ◌<◌, slice_index};
 ghost use Rattle.accounts.specs.Limits.{balance_limit};
-ghost use Rattle.accounts.specs.Tables.{under, total};
+ghost use Rattle.accounts.specs.Rules.{rules_by};
+ghost use Rattle.accounts.specs.Tables.{ByHead, Within, under_by, by_demand, total};
 
 use metering::BLOCKS;
 use methodology::{Methodology, head_of_block};
@@ -17,7 +17,7 @@ pub fn by_head<M: Methodology>(
     blocks: &[u64; BLOCKS],
 ) -> [u64; HEADS]
     requires { total blocks.now < 2 ^ 64 }
-    ensures { (k : ℕ) → k < head_limit → slice_index result k ≡ under M.shape.revenues (M.meaning m.now).interval first others blocks.now k }
+    ensures { ByHead result (under_by (rules_by M.Methodology m.now) first others blocks.now) }
 {
     let mut all = by_demand(M::shape().revenues, first, others);
     for (block, energy) in blocks.iter().enumerate() {
@@ -28,7 +28,7 @@ pub fn by_head<M: Methodology>(
 
 /// The same before any block.
 fn by_demand(revenues: usize, first: u64, others: u64) -> [u64; HEADS]
-    ensures { (k : ℕ) → k < head_limit → slice_index result k ≡ (if nat_eq k 0 then first else (if nat_le k revenues then others else 0)) }
+    ensures { ByHead result (by_demand revenues first others) }
 {
     array::from_fn(|k| {
         if k == 0 {
@@ -41,10 +41,10 @@ fn by_demand(revenues: usize, first: u64, others: u64) -> [u64; HEADS]
     })
 }
 
-/// a + b, head by head.
+/// Two tables added, head by head.
 pub fn added(a: &[u64; HEADS], b: &[u64; HEADS]) -> [u64; HEADS]
-    requires { (((k : ℕ) → k < head_limit → slice_index a.now k ≤ balance_limit)) × (((k : ℕ) → k < head_limit → slice_index b.now k ≤ balance_limit)) }
-    ensures { (k : ℕ) → k < head_limit → slice_index result k ≡ slice_index a.now k + slice_index b.now k }
+    requires { (Within balance_limit a.now) × (Within balance_limit b.now) }
+    ensures { ByHead result (λ k. slice_index a.now k + slice_index b.now k) }
 {
     array::from_fn(|k| a[k] + b[k])
 }

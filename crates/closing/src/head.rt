@@ -1,12 +1,12 @@
 //! A head of a case: its tests, and what it spreads over its quantity.
-ghost use Rattle.std.specs.Prelude.{◌≡◌, ℕ, ◌+◌, ◌*◌, ◌/◌, ◌%◌, ◌<◌, ◌≤◌, true, false, pos, nat_le, ◌-ℤ◌, ◌*ℤ◌, slice_index};
+ghost use Rattle.std.specs.Prelude.{◌≡◌, ℕ, ◌*◌, ◌/◌, ◌%◌, ◌<◌, ◌≤◌, true, false, nat_le};
 ghost use Rattle.metering.specs.Limits.{reading_limit};
 ghost use Rattle.methodology.specs.Limits.{head_limit, revenue_limit, supply_limit};
 ghost use Rattle.rates.specs.Heads.{rates_at};
 ghost use Rattle.rates.specs.Limits.{yearly_limit};
 ghost use Rattle.accounts.specs.Limits.{carry_limit};
 ghost use Rattle.accounts.specs.Months.{taken};
-ghost use Rattle.settlement.specs.Closing.{heads, limit_of, old, share_of, share, pool, sent, quantity, unit, rest, supply, spread, margin, Empty, Unsupplied};
+ghost use Rattle.settlement.specs.Closing.{heads, limit_of, old, share_of, share, pool, sent, quantity, supply, interval_spread, spread, interval_margin, margin, Empty, Unsupplied};
 ghost use Rattle.closing.specs.Cases.{shows, Told};
 ghost use Rattle.closing.specs.Limits.{pool_limit};
 
@@ -29,7 +29,7 @@ pub struct CaseHead<'a, M: Methodology> {
 
 impl<M: Methodology> CaseHead<'_, M> {
     ghost use Rattle.closing.specs.Findings.{Modest};
-    ghost use Rattle.closing.specs.Heads.{at_head, Supplied};
+    ghost use Rattle.closing.specs.Heads.{at_head, Supplied, Shareless};
 
     /// Whether it is billed by demand.
     pub fn is_demand(&self) -> bool
@@ -111,8 +111,8 @@ impl<M: Methodology> CaseHead<'_, M> {
     /// What an interval spreads, and its margin: its unit cost for the energy sent in that is not allowed supply.
     fn interval_spread(&self) -> Spread
         requires { at_head Supplied self.now }
-        ensures value { result.amount ≡ at_head unit self.now * at_head supply self.now + at_head rest self.now }
-        ensures margin { result.margin ≡ pos (at_head unit self.now) *ℤ (pos (at_head sent self.now) -ℤ pos (at_head supply self.now)) }
+        ensures value { result.amount ≡ at_head interval_spread self.now }
+        ensures margin { result.margin ≡ at_head interval_margin self.now }
         ensures modest { at_head Modest self.now result.margin }
     {
         let sent = self.sent();
@@ -140,7 +140,7 @@ impl<M: Methodology> CaseHead<'_, M> {
     fn pool(&self) -> u64
         ensures value { result ≡ at_head pool self.now }
         ensures most { result ≤ pool_limit }
-        ensures shareless { M.shape.revenues < self.now.k → result ≤ slice_index self.now.case.now.month.now.income self.now.k + carry_limit }
+        ensures shareless { at_head Shareless self.now result }
     {
         self.case.month.income[self.k] + CENT * self.share() + self.account().carry
     }

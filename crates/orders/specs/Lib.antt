@@ -1,3 +1,5 @@
 pub mod Limits
 pub mod Refusals
+pub mod Money
 pub mod Tills
+pub mod Places

@@ -8,7 +8,7 @@ use arith::CENT;
 /// Most that may stand at a place and be on its orders together, grains: well within 64 bits.
 pub const MONEY_LIMIT: u64 = 4_000_000_000_000_000_000;
 
-/// What a place has: grains that stand there, and cents that are out on orders.
+/// What a place has. Its money stands there until an order is drawn on it.
 #[derive(Clone, Copy)]
 pub struct Money {
     /// Grains that no order is drawn on.
@@ -19,6 +19,8 @@ pub struct Money {
 }
 
 impl Money {
+    ghost use Rattle.orders.specs.Money.{held_in, MoreStanding};
+
     /// No money.
     pub(crate) fn none() -> Money
         ensures { (result.standing ≡ 0) × (result.on_orders ≡ 0) }
@@ -31,8 +33,8 @@ impl Money {
 
     /// It with so many grains more standing, where that keeps the limit.
     pub(crate) fn with(self, grains: u128) -> Option<Money>
-        ensures room { is_some result ≡ nat_le (grains + (self.standing + cent * self.on_orders)) money_limit }
-        ensures more { IfSome result (λ m. (m.standing ≡ self.standing + grains) × (m.on_orders ≡ self.on_orders)) }
+        ensures room { is_some result ≡ nat_le (grains + held_in self) money_limit }
+        ensures more { IfSome result (MoreStanding self grains) }
     {
         let room = MONEY_LIMIT - (self.standing + CENT * self.on_orders);
         let grains = u64::try_from(grains).ok().filter(|grains| *grains <= room)?;

@@ -1,4 +1,4 @@
-//! Pay orders: plain numbers, made by a draw and spent by a release or a hold.
+//! Pay orders: a till draws them, and takes each in once.
 ghost use Rattle.std.specs.Prelude.{◌≡◌, ◌<◌, ◌≤◌};
 ghost use Rattle.metering.specs.Limits.{place_limit};
 ghost use Rattle.orders.specs.Refusals.{returned_number};
@@ -8,7 +8,7 @@ use crate::place::Place;
 /// The number of the refusal of an order that is not taken in.
 pub const RETURNED: u8 = 22;
 
-/// An order to pay a station. Whoever has one in hand must see it released or held: it cannot be let go.
+/// An order to pay the station of a place. Whoever is given one must see a till take it in: it can be neither copied nor dropped.
 pub struct PayOrder {
     serial: u64,
     place: u8,
@@ -33,7 +33,9 @@ impl PayOrder {
     /// Drawn by a till only.
     pub(crate) fn new(serial: u64, place: Place, cents: u64) -> PayOrder
         requires { 0 < cents }
-        ensures { (result.serial ≡ serial) × (result.place ≡ place.number) × (result.cents ≡ cents) }
+        ensures serial { result.serial ≡ serial }
+        ensures place { result.place ≡ place.number }
+        ensures cents { result.cents ≡ cents }
     {
         PayOrder {
             serial,
@@ -91,7 +93,7 @@ pub struct Paid {
     pub cents: u64,
 }
 
-/// An order that is not taken in comes back.
+/// An order that a till did not take in.
 pub struct Returned {
     pub order: PayOrder,
 }

@@ -1,7 +1,6 @@
 //! The places of a market.
-ghost use Rattle.std.specs.Prelude.{◌≡◌, ◌+◌, ◌≤◌, true, false, MatchOption};
+ghost use Rattle.std.specs.Prelude.{◌≡◌, ◌+◌, ◌≤◌};
 ghost use Rattle.metering.specs.Limits.{place_limit};
-ghost use Rattle.orders.specs.Tills.{is_place};
 
 use metering::PLACES;
 
@@ -13,9 +12,11 @@ pub(crate) struct Place {
 }
 
 impl Place {
+    ghost use Rattle.orders.specs.Places.{Numbered};
+
     /// The place with a number, if there is one.
     pub(crate) fn numbered(number: u8) -> Option<Place>
-        ensures { MatchOption result (is_place number ≡ false) (λ place. (is_place number ≡ true) × (place.number ≡ number)) }
+        ensures { Numbered number result }
     {
         match number {
             1..=PLACES => Some(Place { number }),

@@ -62,7 +62,8 @@ impl Till {
         self.money[place.index()] = money;
     }
 
-    /// Takes in so many grains, which then stand at the place.
+    /// Takes in so many grains, which then stand at the place. Refused with 8 where there is no such place, with 11 where its
+    /// money would pass `MONEY_LIMIT`.
     pub fn credit(&mut self, place: u8, grains: u128) -> Result<(), CreditRefusal>
         ensures { Credits self.old place grains result self.new }
     {
@@ -72,7 +73,8 @@ impl Till {
         Ok(())
     }
 
-    /// Draws an order on all whole cents that stand at the place.
+    /// Draws an order on all whole cents that stand at the place. Refused with 8 where there is no such place, with 21 where
+    /// less than a cent stands there.
     pub fn draw(&mut self, place: u8) -> Result<PayOrder, DrawRefusal>
         ensures { Draws self.old place result self.new }
     {
@@ -99,7 +101,7 @@ impl Till {
         order.serial() == self.serial && order.cents() <= self.money(order.place()).on_orders
     }
 
-    /// Pays the order. One that is not this till's comes back.
+    /// Pays the order. One that is not this till's comes back: that is refusal 22.
     pub fn release(&mut self, order: PayOrder) -> Result<Paid, Returned>
         ensures { Releases self.old order result self.new }
     {
@@ -119,7 +121,7 @@ impl Till {
         Ok(paid)
     }
 
-    /// Puts the order's cents back to what stands at its place. One that is not this till's comes back.
+    /// Puts the order's cents back to what stands at its place. One that is not this till's comes back: that is refusal 22.
     pub fn hold(&mut self, order: PayOrder) -> Result<(), Returned>
         ensures { Holds self.old order result self.new }
     {

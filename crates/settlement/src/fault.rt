@@ -2,7 +2,7 @@
 ghost use Rattle.std.specs.Prelude.{◌≡◌};
 ghost use Rattle.settlement.specs.Faults.{number_of};
 
-/// Heads count from 1, and the head of a fault is the first at which its test fails.
+/// The head of a fault, counted from 1, is the first at which its test fails.
 #[derive(Clone, Copy, PartialEq, Eq, Debug)]
 pub enum CloseFault {
     /// A stated count is not the month's own.

@@ -1,4 +1,4 @@
-//! What the closing of a month is: its figures, its refusals, what it leaves in books and sheet, and the account that it keeps.
+//! The rules of closing a month: its figures, its refusals, what it leaves, and the law that it keeps.
 #![tactic(auto)]
 
 pub mod fault;

@@ -1,4 +1,4 @@
 mod Ranges
-mod Kept
+mod Bounds
 mod Adjusting
 mod Filling

@@ -1,10 +1,10 @@
 //! A head of a tariff that is filed well, and its rates.
-ghost use Rattle.std.specs.Prelude.{◌≡◌, ◌+◌, ◌-◌, ◌*◌, ◌^◌, ◌<◌, ◌≤◌, nat_le, pos, unsigned_abs};
+ghost use Rattle.std.specs.Prelude.{◌≡◌, ◌+◌, ◌-◌, ◌^◌, ◌<◌, ◌≤◌, nat_le, pos, unsigned_abs};
 ghost use Rattle.methodology.specs.Heads.{heads_of};
 ghost use Rattle.methodology.specs.Limits.{factor_limit};
 ghost use Rattle.methodology.specs.Meaning.{UpTo};
 ghost use Rattle.tariffs.specs.Limits.{coefficient_limit};
-ghost use Rattle.tariffs.specs.Publishing.{first_interval, at_interval, demand_head, filed_factor, coefficient_of, base_rate, forecast, per_unit, adjustment_at, energy_fits, keeps, RatesHead};
+ghost use Rattle.tariffs.specs.Publishing.{first_interval, demand_head, filed_factor, coefficient_of, base_rate, forecast, per_unit, adjustment_at, energy_fits, keeps, RatesHead};
 
 use crate::filed::{Filed, per_cost};
 use crate::refusal::TariffFault;

@@ -1,9 +1,9 @@
 //! A row of figures as a filer gives it.
-ghost use Rattle.std.specs.Prelude.{◌≡◌, ℕ, ◌<◌, ◌≤◌, length, slice_index};
+ghost use Rattle.std.specs.Prelude.{◌≡◌, ◌≤◌, length, slice_index};
 ghost use Rattle.std.specs.List.{list_all};
 ghost use Rattle.metering.specs.Verdict.{between};
 ghost use Rattle.methodology.specs.Limits.{head_limit};
-ghost use Rattle.tariffs.specs.Rows.{row_fits};
+ghost use Rattle.tariffs.specs.Rows.{FirstOf, row_fits};
 
 use rates::HEADS;
 use std::array;
@@ -19,7 +19,7 @@ impl Row {
     /// The row of a list. Figures that it has not are 0.
     pub fn of(filed: &[u64]) -> Row
         ensures counted { result.count ≡ length filed.now }
-        ensures kept { (k : ℕ) → k < head_limit → slice_index result.figures k ≡ slice_index filed.now k }
+        ensures kept { FirstOf filed.now result.figures }
     {
         Row {
             count: filed.len(),

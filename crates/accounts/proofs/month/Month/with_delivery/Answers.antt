@@ -27,5 +27,5 @@ returns g c =
       read = refl;
       here = rw c.from.ensures (rw (get_or-set_same licensees i _ None lt) (λ k h. rw (c.widened.ensures, c.from-demand.ensures) at (c.by_head-taken.ensures k h)));
       others = rw c.from.ensures (λ l n. get_or-set_other licensees i l _ None n);
-      deliveries = rw c.from.ensures (one_filled_more licensees i _ lt c.requires.1);
+      deliveries = rw c.from.ensures (one_filled_more licensees i _ lt c.requires.undelivered);
     }

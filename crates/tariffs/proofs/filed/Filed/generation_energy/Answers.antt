@@ -1,5 +1,5 @@
 use Rattle.tariffs.specs.Publishing.{generation_energy}
-use Rattle.tariffs.proofs.Kept.{limits_of}
+use Rattle.tariffs.proofs.Bounds.{limits_of}
 use Rattle.tariffs.proofs.filed.Filed.generation_energy.Goals as goal
 
 pub per_cost-requires : goal.per_cost-requires

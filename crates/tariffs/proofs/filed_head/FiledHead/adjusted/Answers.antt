@@ -5,7 +5,7 @@ use Rattle.arith.specs.Interest.{adjustment_of}
 use Rattle.arith.specs.Scaling.{more_by_signed}
 use Rattle.tariffs.specs.Publishing.{forecast, per_unit, adjustment_at}
 use Rattle.tariffs.proofs.Adjusting.{adjusted_parts}
-use Rattle.tariffs.proofs.Kept.{limits_of}
+use Rattle.tariffs.proofs.Bounds.{limits_of}
 use Rattle.tariffs.proofs.filed_head.FiledHead.adjusted.Goals as goal
 
 pub overflow_cast-interest : goal.overflow_cast-interest

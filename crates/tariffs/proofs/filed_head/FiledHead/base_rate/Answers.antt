@@ -1,7 +1,7 @@
 use Rattle.std.proofs.Common.{◌+◌, ◌-◌, ◌<◌, sym, refl, arith}
 use Rattle.std.proofs.lemmas.Bool.{leb-true}
 use Rattle.tariffs.specs.Publishing.{base_rate}
-use Rattle.tariffs.proofs.Kept.{limits_of}
+use Rattle.tariffs.proofs.Bounds.{limits_of}
 use Rattle.tariffs.proofs.filed_head.FiledHead.base_rate.Goals as goal
 
 pub per_cost-requires : goal.per_cost-requires

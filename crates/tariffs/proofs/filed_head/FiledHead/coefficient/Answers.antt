@@ -1,6 +1,6 @@
 use Rattle.std.proofs.Common.{◌≤◌, refl, arith}
 use Rattle.tariffs.specs.Limits.{coefficient_limit}
-use Rattle.tariffs.proofs.Kept.{limits_of}
+use Rattle.tariffs.proofs.Bounds.{limits_of}
 use Rattle.tariffs.proofs.filed_head.FiledHead.coefficient.Goals as goal
 
 most : (c : goal.After-figure) → c.figure.result ≤ coefficient_limit

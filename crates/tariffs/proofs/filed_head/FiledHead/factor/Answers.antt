@@ -1,7 +1,7 @@
 use Rattle.std.proofs.Common.{◌≤◌, refl, arith}
 use Rattle.methodology.specs.Limits.{factor_limit}
 use Rattle.tariffs.specs.Publishing.{filed_factor}
-use Rattle.tariffs.proofs.Kept.{limits_of}
+use Rattle.tariffs.proofs.Bounds.{limits_of}
 use Rattle.tariffs.proofs.filed_head.FiledHead.factor.Goals as goal
 
 -- the factor at the interval's place keeps its limit

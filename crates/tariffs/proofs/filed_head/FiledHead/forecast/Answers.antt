@@ -1,6 +1,6 @@
 use Rattle.std.proofs.Common.{refl}
 use Rattle.tariffs.specs.Publishing.{forecast}
-use Rattle.tariffs.proofs.Kept.{limits_of}
+use Rattle.tariffs.proofs.Bounds.{limits_of}
 use Rattle.tariffs.proofs.filed_head.FiledHead.forecast.Goals as goal
 
 pub returns-then-is_demand : goal.returns-then-is_demand
