@@ -9,8 +9,8 @@ use Rattle.orders.specs.declared.order.PayOrder.{PayOrder}
 use Rattle.ledger.specs.declared.refusal.Refusal.{Refusal}
 use Rattle.ledger.specs.Views.{View}
 use Rattle.ledger.specs.Calls.{NewHouse}
-use Rattle.ledger.specs.Runs.{Event, filed, priced, metered, delivered, Run, new, year, tariff, meter, deliver, close}
-use Rattle.worked_agreements.proofs.Cases.{worked}
+use Rattle.ledger.specs.Runs.{Event, Run, new, step, year, tariff, meter, deliver, close}
+use Rattle.worked_cases.proofs.QuotaDues.{worked}
 use Rattle.worked_figures.specs.FirstCalls.{first_row, FirstYear, FirstTariff, FirstSent, FirstTaken}
 use Rattle.worked_cases.specs.FirstMonth.{calls, accepted_calls, WorkedMonth}
 use Rattle.worked_cases.specs.Cases.{WorkedCases}
@@ -28,41 +28,41 @@ module _ (serial : ℕ) where
   Calls = Run three_shape three_meaning first_row serial
 
   module _ (given : Row) (g : FirstYear given) (a : Result (Unit {0}) Refusal) where
-    pub year_ok : {hand : List PayOrder} {v : View} → Calls (filed given a ∷ []) hand v → (a ≡ Ok tt) × AfterYear v
-    year_ok (year (new shape market row n) y) = year_accepted (fresh shape market row n) n.opened n.stage_is g a y
+    pub year_ok : {hand : List PayOrder} {v : View} → Calls (year given a ∷ []) hand v → (a ≡ Ok tt) × AfterYear v
+    year_ok (step _ rest (new shape market row n) y h) = year_accepted (fresh shape market row n) n.opened n.stage_is g a y
 
     module _ (filing : Filing) (f : FirstTariff filing) (b : Result (Unit {0}) Refusal) where
-      pub tariff_ok : {hand : List PayOrder} {v : View} → Calls (priced filing b ∷ filed given a ∷ []) hand v → (b ≡ Ok tt) × AfterTariff v
-      tariff_ok (tariff run t) = tariff_accepted (year_ok run).1 f b t
+      pub tariff_ok : {hand : List PayOrder} {v : View} → Calls (tariff filing b ∷ year given a ∷ []) hand v → (b ≡ Ok tt) × AfterTariff v
+      tariff_ok (step _ rest run t h) = tariff_accepted (year_ok run).1 f b t
 
-      module _ (sent : Reading) (s : FirstSent sent) (c : Result (Unit {0}) Refusal) where
-        pub meter_ok : {hand : List PayOrder} {v : View} → Calls (metered sent c ∷ priced filing b ∷ filed given a ∷ []) hand v → (c ≡ Ok tt) × AfterMeter sent v
-        meter_ok (meter run m) = meter_accepted (tariff_ok run).1 s c m
+      module _ (sent : Reading) (s : FirstSent sent) (c : Result ℕ Refusal) where
+        pub meter_ok : {hand : List PayOrder} {v : View} → Calls (meter sent c ∷ tariff filing b ∷ year given a ∷ []) hand v → (c ≡ Ok 5500000) × AfterMeter sent v
+        meter_ok (step _ rest run m h) = meter_accepted (tariff_ok run).1 s c m
 
         module _ (taken : Reading) (l : FirstTaken taken) (d : Result (Unit {0}) Refusal) where
-          pub deliver_ok : {hand : List PayOrder} {v : View} → Calls (delivered taken d ∷ metered sent c ∷ priced filing b ∷ filed given a ∷ []) hand v → (d ≡ Ok tt) × AfterDelivery sent taken v
-          deliver_ok (deliver run x) = deliver_accepted (meter_ok run).1 l d x
+          pub deliver_ok : {hand : List PayOrder} {v : View} → Calls (deliver taken d ∷ meter sent c ∷ tariff filing b ∷ year given a ∷ []) hand v → (d ≡ Ok tt) × AfterDelivery sent taken v
+          deliver_ok (step _ rest run x h) = deliver_accepted (meter_ok run).1 l d x
 
           module _ (before after : Sheet) (e : Result (Unit {0}) Refusal) where
             pub close_ok : {hand : List PayOrder} {v : View} → Calls (calls given filing sent taken a b c d before e after) hand v → (e ≡ Ok tt) × Shown after
-            close_ok {hand} {v} (close run z) = close_accepted v before after (deliver_ok run).1 s l e z
+            close_ok {hand} {v} (step _ rest run z h) = close_accepted v before after (deliver_ok run).1 s l e z
 
             -- all of them are accepted
             pub all_ok : {hand : List PayOrder} {v : View} → Calls (calls given filing sent taken a b c d before e after) hand v → calls given filing sent taken a b c d before e after ≡ accepted_calls given filing sent taken before after
-            all_ok (close (deliver (meter (tariff (year run y) t) m) x) z) =
-                let first = year run y in
+            all_ok (step _ r5 (step _ r4 (step _ r3 (step _ r2 (step _ r1 run y h1) t h2) m h3) x h4) z h5) =
+                let first = step (year given a) r1 run y h1 in
                 let filed = (year_ok first).0 in
-                let second = tariff first t in
+                let second = step (tariff filing b) r2 first t h2 in
                 let priced = (tariff_ok second).0 in
-                let third = meter second m in
+                let third = step (meter sent c) r3 second m h3 in
                 let metered = (meter_ok third).0 in
-                let fourth = deliver third x in
+                let fourth = step (deliver taken d) r4 third x h4 in
                 let delivered = (deliver_ok fourth).0 in
-                let closed = (close_ok (close fourth z)).0 in
+                let closed = (close_ok (step (close 1 1 before e after) r5 fourth z h5)).0 in
                 cc
 
 month : WorkedMonth
-month given filing sent taken f a b c d e before after serial hand v run = (
+month given filing sent taken f a b d e c before after serial hand v run = (
   all_ok serial given f.revenues a filing f.filing b sent f.station c taken f.licensee d before after e run,
   printed after (close_ok serial given f.revenues a filing f.filing b sent f.station c taken f.licensee d before after e run).1 given filing sent taken before f,
 )

@@ -1,3 +1,4 @@
+pub mod QuotaDues
 pub mod Small
 pub mod Figures
 pub mod Rates

@@ -23,8 +23,9 @@ use Rattle.ledger.specs.declared.stage.Half.{Half}
 use Rattle.ledger.specs.declared.stage.Half.TheVariants.{First}
 use Rattle.ledger.specs.declared.stage.Stage.TheVariants.{BeforeYear, BeforeTariff, InMonth}
 use Rattle.ledger.specs.declared.refusal.Refusal.{Refusal}
-use Rattle.ledger.specs.Views.{View, rules, till_of, month_of, books_of, with_tariff, first_month, before_tariff, in_month}
-use Rattle.ledger.specs.Terms.{dues_at}
+use Rattle.ledger.specs.Views.{View, rules, till_of, month_of, books_of, with_tariff}
+use Rattle.ledger.specs.Stages.{first_month, before_tariff, in_month}
+use Rattle.ledger.specs.Terms.{worth, dues_at}
 use Rattle.ledger.specs.Calls.{Year, Tariff, Meter, Deliver, Close, case_at}
 use Rattle.ledger.proofs.Months.{refused_not}
 use Rattle.worked_figures.specs.FirstCalls.{first_row, FirstYear, FirstTariff, FirstSent, FirstTaken}
@@ -150,14 +151,14 @@ pub record AfterMeter (sent : Reading) (v : View) : Type 0 where
   pub generated : Generated (rules_of three_shape three_meaning) before sent first_dues (month_of v)
   pub unread : (l : ℕ) → licensee_at (month_of v) l ≡ None
 
-pub meter_accepted : {v w : View} {sent : Reading} → AfterTariff v → FirstSent sent → (r : Result (Unit {0}) Refusal) → Meter v sent r w → (r ≡ Ok tt) × AfterMeter sent w
-meter_accepted {v} {w} {sent} a t (Ok u) m =
+pub meter_accepted : {v w : View} {sent : Reading} → AfterTariff v → FirstSent sent → (r : Result ℕ Refusal) → Meter v sent r w → (r ≡ Ok 5500000) × AfterMeter sent w
+meter_accepted {v} {w} {sent} a t (Ok n) m =
     let place = ap (λ row. at_place row sent.number) a.fresh.row_is in
     let dues = ap (λ p. dues_at p sent) place ∙ dues_are sent t in
     let generated =
     subst (λ d. Generated (rules_of three_shape three_meaning) (month_of v) sent d (month_of w)) dues
     (subst (λ r. Generated r (month_of v) sent (dues_at (at_place v.row sent.number) sent) (month_of w)) (rules_are a.month_open) m.1.added) in (
-      refl,
+      ap Ok (m.1.due ∙ ap worth dues),
       record {
         month_open = subst Open (sym m.1.left) (record { shape_is = a.month_open.shape_is; market_is = a.month_open.market_is; unused = a.month_open.unused; filed = record { year_1 = a.month_open.filed.year_1; year_2 = a.month_open.filed.year_2 }; stage_is = a.month_open.stage_is; rated = a.month_open.rated });
         before = month_of v;

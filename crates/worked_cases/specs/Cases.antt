@@ -1,5 +1,5 @@
 -- The worked cases, all of them together.
-use Rattle.worked_agreements.specs.Worked.{WorkedQuota}
+use Rattle.worked_cases.specs.Quota.{WorkedQuota}
 use Rattle.worked_cases.specs.Adjustment.{WorkedAdjustment}
 use Rattle.worked_cases.specs.Closing.{WorkedClosing}
 use Rattle.worked_cases.specs.FirstMonth.{WorkedMonth}

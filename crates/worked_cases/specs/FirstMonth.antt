@@ -8,7 +8,8 @@ use Rattle.tariffs.specs.declared.filing.Filing.{Filing}
 use Rattle.orders.specs.declared.order.PayOrder.{PayOrder}
 use Rattle.ledger.specs.declared.refusal.Refusal.{Refusal}
 use Rattle.ledger.specs.Views.{View}
-use Rattle.ledger.specs.Runs.{Event, filed, priced, metered, delivered, closed, Run}
+use Rattle.ledger.specs.Runs.{Event, Run}
+use Rattle.ledger.specs.Runs as runs
 use Rattle.ledger.specs.Law.{covered, costs}
 use Rattle.sheet.specs.Text.{sheet_text}
 use Rattle.worked_figures.specs.FirstCalls.{first_row, FirstFigures}
@@ -19,14 +20,14 @@ first_text =
     "month 1\nG 22222 20000 199980 20\nT 9222 9000 19980 20\nB 888 907 -1710 80\nE1 53571 52000 43988 12\nE2 52631 60000 -140011 11\nE3 55555 50000 99990 10\nlicensee 1 618 7630\nmargin 0\n"
 
 -- the five calls with any answers, the last first; the sheet before the closing and after it
-abbrev pub calls : Row → Filing → Reading → Reading → Result (Unit {0}) Refusal → Result (Unit {0}) Refusal → Result (Unit {0}) Refusal → Result (Unit {0}) Refusal → Sheet → Result (Unit {0}) Refusal → Sheet → List Event
+abbrev pub calls : Row → Filing → Reading → Reading → Result (Unit {0}) Refusal → Result (Unit {0}) Refusal → Result ℕ Refusal → Result (Unit {0}) Refusal → Sheet → Result (Unit {0}) Refusal → Sheet → List Event
 calls year tariff sent taken a b c d before e after =
-    closed 1 1 before e after ∷ delivered taken d ∷ metered sent c ∷ priced tariff b ∷ filed year a ∷ []
+    runs.close 1 1 before e after ∷ runs.deliver taken d ∷ runs.meter sent c ∷ runs.tariff tariff b ∷ runs.year year a ∷ []
 
--- the calls, all accepted
+-- the calls, all accepted; the station is due 5,500,000 grains
 abbrev pub accepted_calls : Row → Filing → Reading → Reading → Sheet → Sheet → List Event
 accepted_calls year tariff sent taken before after =
-    calls year tariff sent taken (Ok tt) (Ok tt) (Ok tt) (Ok tt) before (Ok tt) after
+    calls year tariff sent taken (Ok tt) (Ok tt) (Ok 5500000) (Ok tt) before (Ok tt) after
 
 -- the printed sheet, and both sides of the account
 pub record Printed (es : List Event) (sheet : Sheet) : Type 0 where
@@ -38,7 +39,7 @@ pub record Printed (es : List Event) (sheet : Sheet) : Type 0 where
 abbrev pub WorkedMonth : Type 0
 WorkedMonth =
     (year : Row) (tariff : Filing) (sent taken : Reading) → FirstFigures year tariff sent taken →
-    (a b c d e : Result (Unit {0}) Refusal) (before after : Sheet) (serial : ℕ) (hand : List PayOrder) (v : View) →
+    (a b d e : Result (Unit {0}) Refusal) (c : Result ℕ Refusal) (before after : Sheet) (serial : ℕ) (hand : List PayOrder) (v : View) →
     Run three_shape three_meaning first_row serial (calls year tariff sent taken a b c d before e after) hand v →
     (calls year tariff sent taken a b c d before e after ≡ accepted_calls year tariff sent taken before after) × Printed (accepted_calls year tariff sent taken before after) after
 

@@ -1,3 +1,4 @@
+pub mod Quota
 pub mod Adjustment
 pub mod Closing
 pub mod FirstMonth

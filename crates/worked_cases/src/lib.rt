@@ -1,6 +1,8 @@
-//! The worked cases: figures that are known, as theorems about the definitions, and the first month through the house.
+//! Cases whose figures are known: each a theorem about the definitions, a quota's dues and the first month also through the code.
 #![tactic(auto)]
 
 pub mod month;
+pub mod quota;
 
-pub use month::{FirstMonth, Market, first_month};
+pub use month::{FirstHouse, FirstMonth, first_month};
+pub use quota::worked_quota;

@@ -12,13 +12,13 @@ use house::House;
 use methodology::{Methodology, ThreeIntervals};
 use worked_figures::{agreement, sent, taken, tariff, year};
 
-/// Three intervals, and one station under a two-part agreement.
-pub type Market = House<One<TwoPart>, ThreeIntervals>;
+/// The house of the first month: three intervals, and one station under a two-part agreement.
+pub type FirstHouse = House<One<TwoPart>, ThreeIntervals>;
 
 /// The house after its first month, and the month's sheet.
 #[derive(Drop)]
 pub struct FirstMonth {
-    pub house: Market,
+    pub house: FirstHouse,
     pub sheet: Sheet,
 }
 

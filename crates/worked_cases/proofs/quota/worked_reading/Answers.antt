@@ -1,5 +1,5 @@
-use Rattle.worked_agreements.proofs.Cases.{fits, stored}
-use Rattle.worked_agreements.proofs.worked_reading.Goals as goal
+use Rattle.worked_cases.proofs.QuotaDues.{fits, stored}
+use Rattle.worked_cases.proofs.quota.worked_reading.Goals as goal
 
 pub unwrap-requires : goal.unwrap-requires
 unwrap-requires c = fits _ _ _ c.make_reading.ensures

@@ -1,8 +1,6 @@
 //! The worked case of a quota: 25 kWh at 60,000 grains, the rest at 40,000; 20 kWh in block 2 and 30 kWh in block 12.
-#![tactic(auto)]
-
 ghost use Rattle.std.specs.Prelude.{◌≡◌};
-ghost use Rattle.worked_agreements.specs.Worked.{worked_energies, worked_dues, WorkedQuota};
+ghost use Rattle.worked_cases.specs.Quota.{worked_energies, worked_dues, WorkedQuota};
 
 use agreements::{Agreement, Dues, Quota};
 use metering::{BLOCKS, Figures, Reading, make_reading};

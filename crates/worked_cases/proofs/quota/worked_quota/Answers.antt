@@ -1,7 +1,7 @@
 use Rattle.std.proofs.Common.{ap, ◌∙◌}
 use Rattle.agreements.specs.Meaning.{answer, written}
-use Rattle.worked_agreements.proofs.Cases.{worked}
-use Rattle.worked_agreements.proofs.worked_quota.Goals as goal
+use Rattle.worked_cases.proofs.QuotaDues.{worked}
+use Rattle.worked_cases.proofs.quota.worked_quota.Goals as goal
 
 pub returns-clause-value : goal.returns-clause-value
 returns-clause-value c =
