@@ -2,6 +2,7 @@
 use std::alloc::{AllocError, AllocFailed};
 use std::io;
 
+/// What made the program fail, and whether it has been told.
 #[derive(Drop)]
 pub enum Failure {
     /// What there is to say has been printed.

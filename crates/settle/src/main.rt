@@ -1,20 +1,22 @@
 //! settle: reads an operator's journal, performs its calls and prints what came of each.
 #![tactic(auto)]
 
-mod arguments;
+mod call_list;
+mod command;
 mod failure;
-mod opening;
-mod printing;
-mod running;
+mod outcome;
 mod source;
 
-use crate::arguments::{Command, USAGE, asked};
+use crate::call_list::CallList;
+use crate::command::{Command, USAGE};
 use crate::failure::Failure;
-use crate::running::perform_list;
+use crate::outcome::Outcome;
 use crate::source::Source;
 use banks::Bank;
+use history::NewHouse;
 use journal::{Journal, Market};
-use methodology::{ThreeIntervals, TwoIntervals};
+use methodology::{Methodology, ThreeIntervals, TwoIntervals};
+use stations::Stations;
 use std::env;
 use std::process::ExitCode;
 use words::Counted;
@@ -33,7 +35,7 @@ fn start(rt: &HostRuntime) -> Result<(), Failure> {
     let mut args = env::args(rt)?;
     let _ = args.next();
     let words: Vec<String> = args.collect(rt.alloc())?;
-    match asked(words.as_slice()) {
+    match Command::of(words.as_slice()) {
         Some(Command::Run(path)) => run(rt, &Source::read(rt, path)?),
         Some(Command::Check(path)) => check(rt, &Source::read(rt, path)?),
         Some(Command::Help) => {
@@ -61,6 +63,31 @@ fn run(rt: &HostRuntime, source: &Source<'_>) -> Result<(), Failure> {
         Market::Three => perform_list(rt, ThreeIntervals, stations, serial, &list),
         Market::Two => perform_list(rt, TwoIntervals, stations, serial, &list),
     }
+}
+
+/// Performs the calls, prints what came of them, and has the orders that are still in hand held.
+fn perform_list<M: Methodology + Drop>(
+    rt: &HostRuntime,
+    methodology: M,
+    stations: Stations,
+    serial: u64,
+    list: &CallList,
+) -> Result<(), Failure> {
+    let places = stations.places();
+    let house = NewHouse {
+        bank: stations,
+        methodology,
+        serial,
+    };
+    let performance = house.perform_alone(rt.alloc(), &list.calls)?;
+    let outcome = Outcome {
+        list,
+        performance: &performance,
+        places,
+    };
+    let printed = outcome.print(rt);
+    let (_house, _answers) = performance.hold_all();
+    printed
 }
 
 /// Says whether a journal can be read and its meter files opened. No call is performed.

@@ -1,10 +1,13 @@
-//! A journal's file: its path and its text, and messages about its lines.
+//! A journal's file, and the meter files that its lines name.
+use crate::call_list::{CallList, RefusedFile, reading_of};
 use crate::failure::Failure;
-use journal::{Journal, Unread, parse_journal};
+use history::{Call, Named, Spending};
+use journal::{Entry, Journal, Request, Unread, Verb, parse_journal};
 use std::alloc::AllocError;
 use std::fs;
 use std::path::Path;
 
+/// A journal's path and its text.
 #[derive(Drop)]
 pub struct Source<'a> {
     pub path: &'a str,
@@ -13,7 +16,6 @@ pub struct Source<'a> {
 
 impl<'a> Source<'a> {
     /// The file at a path, or a message.
-    /// `meterfile` says this of each of its files by one function, which also tells refusals: a shared one would be no plainer.
     pub fn read(rt: &HostRuntime, path: &'a str) -> Result<Source<'a>, Failure> {
         match fs::read_to_string(rt, path) {
             Ok(text) => Ok(Source { path, text }),
@@ -37,13 +39,56 @@ impl<'a> Source<'a> {
         }
     }
 
-    /// The bytes of a file that a line names, whose path is relative to the journal's own folder; or a message.
-    pub fn read_beside(
+    /// Opens every entry, so that each is a call or the refusal of its meter file; or says of the first meter file that cannot
+    /// be opened why not.
+    pub fn open_all(&self, rt: &HostRuntime, entries: &[Entry<'_>]) -> Result<CallList, Failure> {
+        let mut list = CallList {
+            calls: Vec::with_capacity(rt.alloc(), entries.len())?,
+            entries: Vec::with_capacity(rt.alloc(), entries.len())?,
+        };
+        for entry in entries {
+            match self.open(rt, entry)? {
+                Ok(call) => {
+                    list.calls.push(call)?;
+                    list.entries.push(None)?;
+                }
+                Err(file) => list.entries.push(Some(file))?,
+            }
+        }
+        Ok(list)
+    }
+
+    /// The call of an entry, or its meter file's refusal. A failure is another matter: the file cannot be opened.
+    fn open(
         &self,
         rt: &HostRuntime,
-        line: usize,
-        name: &[u8],
-    ) -> Result<Vec<u8>, Failure> {
+        entry: &Entry<'_>,
+    ) -> Result<Result<Call, RefusedFile>, Failure> {
+        let line = entry.line;
+        let call = match entry.request {
+            Request::Year(revenues) => Call::Year(revenues),
+            Request::Tariff(filing) => Call::Tariff(filing),
+            Request::Meter(name) => {
+                let bytes = self.read_beside(rt, line, name)?;
+                return Ok(reading_of(&bytes, Verb::Meter).map(Call::Meter));
+            }
+            Request::Deliver(name) => {
+                let bytes = self.read_beside(rt, line, name)?;
+                return Ok(reading_of(&bytes, Verb::Deliver).map(Call::Deliver));
+            }
+            Request::Close {
+                readings,
+                deliveries,
+            } => Call::closing(readings, deliveries),
+            Request::Draw(place) => Call::Draw(place),
+            Request::Release(order) => Call::Present(Spending::Release, Named::Drawn(order)),
+            Request::Hold(order) => Call::Present(Spending::Hold, Named::Drawn(order)),
+        };
+        Ok(Ok(call))
+    }
+
+    /// The bytes of a file that a line names, whose path is relative to the journal's own folder; or a message.
+    fn read_beside(&self, rt: &HostRuntime, line: usize, name: &[u8]) -> Result<Vec<u8>, Failure> {
         let path = self.path;
         let Ok(name) = str::from_utf8(name) else {
             eprintln!(rt; "{path}:{line}: expected a file name in UTF-8")?;
@@ -61,7 +106,6 @@ impl<'a> Source<'a> {
     }
 
     /// Prints the line that a message is about, under the message.
-    /// `meterfile` has it too: a shared one would be a library's function with a contract, longer than these two.
     fn show_line(&self, rt: &HostRuntime, line: usize) -> Failure {
         if let Some(wrong) = self.text.lines().nth(line.saturating_sub(1))
             && let Err(error) = eprintln!(rt; "    {wrong}")

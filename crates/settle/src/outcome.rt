@@ -1,16 +1,16 @@
-//! Printing what came of a list of calls: a line for each entry, the sheets of the closings, and at the end the books.
+//! What came of a list of calls: a line for each entry, the sheets of the closings, and at the end the books.
+use crate::call_list::CallList;
 use crate::failure::Failure;
-use crate::opening::List;
 use history::Performance;
 use methodology::Methodology;
 use printout::Printer;
-use statement::statement;
+use statement::Statement;
 use stations::Stations;
 
 /// A journal's list, what was performed of it, and how many places the market has.
 #[derive(Drop)]
 pub struct Outcome<'a, M: Methodology> {
-    pub list: &'a List,
+    pub list: &'a CallList,
     pub performance: &'a Performance<Stations, M>,
     pub places: u8,
 }
@@ -39,7 +39,7 @@ impl<'a, M: Methodology> Outcome<'a, M> {
 
     /// Prints the books: the account over the closed months, and the money of each of the market's places.
     fn print_books(&self, rt: &HostRuntime) -> Result<(), Failure> {
-        let Some(books) = statement(&self.list.calls, self.performance) else {
+        let Some(books) = Statement::of(&self.list.calls, self.performance) else {
             eprintln!(rt; "settle: there are too many calls to be added up")?;
             return Err(Failure::Told);
         };

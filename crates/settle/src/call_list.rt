@@ -1,0 +1,27 @@
+//! The calls of a journal, with the meter files that were refused among them.
+use history::Call;
+use journal::Verb;
+use meter_files::{FileRefusal, read_file};
+use metering::Reading;
+
+/// A meter file that was refused: there is no call.
+#[derive(Clone, Copy)]
+pub struct RefusedFile {
+    /// What the journal asked to do with the file's reading.
+    pub verb: Verb,
+    pub refusal: FileRefusal,
+}
+
+/// The calls in their order; and for each entry of the journal the file that was refused in place of a call, if one was.
+#[derive(Drop)]
+pub struct CallList {
+    pub calls: Vec<Call>,
+    pub entries: Vec<Option<RefusedFile>>,
+}
+
+/// The reading of a meter file, or the file's refusal.
+pub fn reading_of(bytes: &[u8], verb: Verb) -> Result<Reading, RefusedFile> {
+    let mut reading = Reading::empty();
+    read_file(bytes, &mut reading).map_err(|refusal| RefusedFile { verb, refusal })?;
+    Ok(reading)
+}
