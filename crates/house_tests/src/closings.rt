@@ -1,37 +1,33 @@
 //! Months that cannot be closed, and how each is mended.
 ghost use Rattle.std.specs.Prelude.{◌<◌, ◌≤◌};
-ghost use Rattle.agreements.specs.Limits.{energy_price_limit};
+ghost use Rattle.arith.specs.Money.{energy_rate_limit};
 
 use crate::market::{
     agreement, answers_of, checked_answers, checked_answers_of, filing, reading, reading_of,
     refusal_at, sent, sheet_at, tariff, year,
 };
-use crate::told::Told;
+use crate::reply::Reply;
+use accounts::BALANCE_LIMIT;
 use agreements::TwoPart;
+use agreements::limits::CONTRACTED_LIMIT;
+use arith::{DEMAND_RATE_LIMIT, ENERGY_RATE_LIMIT};
 use banks::{Beside, Listed, One};
 use history::{Answer, Call};
 use ledger::Refusal;
-use metering::Kind;
+use metering::{DEMAND_LIMIT, Kind};
 use std::alloc::{AllocError, Global};
 use std::process::Abort;
 use std::test::Fail;
 use tariffs::{Filing, Row};
 
-/// The most that a meter may show, kW, and its price, grains per kW.
-const DEMAND: u32 = 2_000_000;
-
-const CAPACITY_PRICE: u64 = 50_000_000_000;
-
-const ENERGY_PRICE: u64 = 100_000_000;
-
 /// The highest balance, in size.
-const BALANCE: i64 = 4_000_000_000_000_000_000;
+const BALANCE: i64 = BALANCE_LIMIT as i64;
 
 /// An agreement whose capacity due may be 10^17 grains.
 fn dear(energy_price: u64) -> TwoPart
-    requires { energy_price ≤ energy_price_limit }
+    requires { energy_price ≤ energy_rate_limit }
 {
-    TwoPart::new(2_000_000, CAPACITY_PRICE, energy_price).unwrap()
+    TwoPart::new(CONTRACTED_LIMIT, DEMAND_RATE_LIMIT, energy_price).unwrap()
 }
 
 /// Two more stations send in the kWh that are missing.
@@ -41,15 +37,15 @@ fn no_more_is_delivered_than_was_sent(rt: HostRuntime) -> Result<(), Fail> {
     let second = reading_of(Kind::Generator, 2, 0, [0, 1, 1]);
     let third = reading_of(Kind::Generator, 3, 0, [0, 0, 1]);
     let list = [
-        (year(), Told::Accepted),
-        (tariff(), Told::Accepted),
-        (Call::Meter(sent()), Told::Metered(5_500_000)),
-        (Call::Deliver(delivery), Told::Accepted),
-        (Call::closing(1, 1), Told::Refused(Refusal::Supply(4))),
-        (Call::Meter(second), Told::Metered(100_000)),
-        (Call::closing(2, 1), Told::Refused(Refusal::Supply(5))),
-        (Call::Meter(third), Told::Metered(50_000)),
-        (Call::closing(3, 1), Told::Closed),
+        (year(), Reply::Accepted),
+        (tariff(), Reply::Accepted),
+        (Call::Meter(sent()), Reply::Metered(5_500_000)),
+        (Call::Deliver(delivery), Reply::Accepted),
+        (Call::closing(1, 1), Reply::Refused(Refusal::Supply(4))),
+        (Call::Meter(second), Reply::Metered(100_000)),
+        (Call::closing(2, 1), Reply::Refused(Refusal::Supply(5))),
+        (Call::Meter(third), Reply::Metered(50_000)),
+        (Call::closing(3, 1), Reply::Closed),
     ];
     let two = Beside::new(One::new(agreement()), One::new(agreement()));
     let bank = Beside::new(two, One::new(agreement()));
@@ -63,13 +59,13 @@ fn twice_what_was_delivered_may_be_sent(rt: HostRuntime) -> Result<(), Fail> {
     let first = reading(Kind::Licensee, 90, [18, 14, 19]);
     let second = reading_of(Kind::Licensee, 2, 0, [0, 1, 0]);
     let list = [
-        (year(), Told::Accepted),
-        (tariff(), Told::Accepted),
-        (Call::Meter(sent()), Told::Metered(5_500_000)),
-        (Call::Deliver(first), Told::Accepted),
-        (Call::closing(1, 1), Told::Refused(Refusal::Supply(4))),
-        (Call::Deliver(second), Told::Accepted),
-        (Call::closing(1, 2), Told::Closed),
+        (year(), Reply::Accepted),
+        (tariff(), Reply::Accepted),
+        (Call::Meter(sent()), Reply::Metered(5_500_000)),
+        (Call::Deliver(first), Reply::Accepted),
+        (Call::closing(1, 1), Reply::Refused(Refusal::Supply(4))),
+        (Call::Deliver(second), Reply::Accepted),
+        (Call::closing(1, 2), Reply::Closed),
     ];
     checked_answers(&rt, rt.alloc(), &list)?;
     Ok(())
@@ -93,29 +89,32 @@ fn check_actual(
 /// 10^17 grains over a demand of 1 kW, then of 1,999,999 kW, and at last of 2,000,000 kW: 5 * 10^10 is the limit.
 #[test]
 fn a_demand_rate_keeps_its_limit(rt: HostRuntime) -> Result<(), Fail> {
-    let station = reading(Kind::Generator, DEMAND, [20, 30, 20]);
+    let station = reading(Kind::Generator, DEMAND_LIMIT, [20, 30, 20]);
     let first = reading(Kind::Licensee, 1, [18, 28, 19]);
     let second = reading_of(Kind::Licensee, 2, 1_999_998, [0, 0, 0]);
     let third = reading_of(Kind::Licensee, 3, 1, [0, 0, 0]);
     let list = [
-        (year(), Told::Accepted),
-        (tariff(), Told::Accepted),
-        (Call::Meter(station), Told::Metered(100_000_000_003_500_000)),
-        (Call::Deliver(first), Told::Accepted),
+        (year(), Reply::Accepted),
+        (tariff(), Reply::Accepted),
+        (
+            Call::Meter(station),
+            Reply::Metered(100_000_000_003_500_000),
+        ),
+        (Call::Deliver(first), Reply::Accepted),
         (
             Call::closing(1, 1),
-            Told::Refused(Refusal::RateOverLimit(1)),
+            Reply::Refused(Refusal::RateOverLimit(1)),
         ),
-        (Call::Deliver(second), Told::Accepted),
+        (Call::Deliver(second), Reply::Accepted),
         (
             Call::closing(1, 2),
-            Told::Refused(Refusal::RateOverLimit(1)),
+            Reply::Refused(Refusal::RateOverLimit(1)),
         ),
-        (Call::Deliver(third), Told::Accepted),
-        (Call::closing(1, 3), Told::Closed),
+        (Call::Deliver(third), Reply::Accepted),
+        (Call::closing(1, 3), Reply::Closed),
     ];
     let answers = checked_answers_of(&rt, rt.alloc(), One::new(dear(50_000)), &list)?;
-    check_actual(&rt, &answers, 8, 0, CAPACITY_PRICE)
+    check_actual(&rt, &answers, 8, 0, DEMAND_RATE_LIMIT)
 }
 
 /// A kWh is due 10^8 grains, the limit. Of those sent in all must be delivered.
@@ -125,20 +124,20 @@ fn an_energy_rate_keeps_its_limit(rt: HostRuntime) -> Result<(), Fail> {
     let first = reading(Kind::Licensee, 90, [20, 30, 19]);
     let second = reading_of(Kind::Licensee, 8, 0, [0, 0, 1]);
     let list = [
-        (year(), Told::Accepted),
-        (tariff(), Told::Accepted),
-        (Call::Meter(station), Told::Metered(7_002_000_000)),
-        (Call::Deliver(first), Told::Accepted),
+        (year(), Reply::Accepted),
+        (tariff(), Reply::Accepted),
+        (Call::Meter(station), Reply::Metered(7_002_000_000)),
+        (Call::Deliver(first), Reply::Accepted),
         (
             Call::closing(1, 1),
-            Told::Refused(Refusal::RateOverLimit(5)),
+            Reply::Refused(Refusal::RateOverLimit(5)),
         ),
-        (Call::Deliver(second), Told::Accepted),
-        (Call::closing(1, 2), Told::Closed),
+        (Call::Deliver(second), Reply::Accepted),
+        (Call::closing(1, 2), Reply::Closed),
     ];
-    let bank = One::new(TwoPart::new(100, 20_000, ENERGY_PRICE).unwrap());
+    let bank = One::new(TwoPart::new(100, 20_000, ENERGY_RATE_LIMIT).unwrap());
     let answers = checked_answers_of(&rt, rt.alloc(), bank, &list)?;
-    check_actual(&rt, &answers, 6, 4, ENERGY_PRICE)
+    check_actual(&rt, &answers, 6, 4, ENERGY_RATE_LIMIT)
 }
 
 /// A first station that is paid for energy alone, and eight that are paid 10^17 grains for capacity alone.
@@ -155,9 +154,9 @@ fn nine_stations(heap: Global) -> Option<Listed<TwoPart>> {
 /// A month in which the first station sends, and eight licensees show the most that a meter may.
 fn greatest_demand(calls: &mut Vec<Call>) -> Result<(), AllocError> {
     calls.push(Call::Meter(sent()))?;
-    calls.push(Call::Deliver(reading(Kind::Licensee, DEMAND, [18, 28, 19])))?;
+    calls.push(Call::Deliver(reading(Kind::Licensee, DEMAND_LIMIT, [18, 28, 19])))?;
     for number in 2..9 {
-        calls.push(Call::Deliver(reading_of(Kind::Licensee, number, DEMAND, [0, 0, 0])))?;
+        calls.push(Call::Deliver(reading_of(Kind::Licensee, number, DEMAND_LIMIT, [0, 0, 0])))?;
     }
     calls.push(Call::closing(1, 8))?;
     Ok(())
@@ -175,7 +174,7 @@ fn six_months(calls: &mut Vec<Call>) -> Result<(), AllocError> {
         greatest_demand(calls)?;
     }
     for place in 2..10 {
-        calls.push(Call::Meter(reading_of(Kind::Generator, place, DEMAND, [0, 0, 0])))?;
+        calls.push(Call::Meter(reading_of(Kind::Generator, place, DEMAND_LIMIT, [0, 0, 0])))?;
     }
     calls.push(Call::closing(9, 8))?;
     Ok(())
@@ -190,7 +189,7 @@ fn check_months(rt: &impl Abort, answers: &[Answer]) -> Result<(), Fail> {
     let first = sixth.heads[0];
     assert_eq!(rt;
         (sixth.month, first.actual, first.balance),
-        (6, CAPACITY_PRICE, -BALANCE)
+        (6, DEMAND_RATE_LIMIT, -BALANCE)
     );
     Ok(())
 }

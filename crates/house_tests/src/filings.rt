@@ -1,18 +1,12 @@
 //! Tariffs that are turned down for a figure that is out of its range, or for a rate that is.
 use crate::market::{checked_answers, filing, tariff, year};
-use crate::told::Told;
+use crate::reply::Reply;
 use history::Call;
 use ledger::Refusal;
 use std::alloc::AllocError;
 use std::test::Fail;
+use tariffs::limits::{COST_LIMIT, DELIVERED_LIMIT, SENT_LIMIT};
 use tariffs::{Filing, Row};
-
-/// Most that may be filed.
-const COST: u64 = 100_000_000_000_000;
-
-const SENT: u64 = 100_000_000_000;
-
-const DELIVERED: u64 = 48_000_000_000;
 
 /// Filings with one count that does not fit the heads.
 fn miscounted() -> [Filing; 5] {
@@ -46,7 +40,7 @@ fn misfigured() -> [Filing; 11] {
     let filing = filing();
     [
         Filing {
-            costs: Row::of(&[1_080, COST + 1, 49]),
+            costs: Row::of(&[1_080, COST_LIMIT + 1, 49]),
             ..filing
         },
         Filing { peaks: 0, ..filing },
@@ -55,12 +49,12 @@ fn misfigured() -> [Filing; 11] {
             ..filing
         },
         Filing {
-            energy_cost: COST + 1,
+            energy_cost: COST_LIMIT + 1,
             ..filing
         },
         Filing { sent: 0, ..filing },
         Filing {
-            sent: SENT + 1,
+            sent: SENT_LIMIT + 1,
             ..filing
         },
         Filing {
@@ -68,7 +62,7 @@ fn misfigured() -> [Filing; 11] {
             ..filing
         },
         Filing {
-            delivered: Row::of(&[168, 114, DELIVERED + 1]),
+            delivered: Row::of(&[168, 114, DELIVERED_LIMIT + 1]),
             ..filing
         },
         Filing {
@@ -89,11 +83,11 @@ fn misfigured() -> [Filing; 11] {
 /// Every figure at its limit. GE is 10,000 * 10^14 / 10^11 = 10^7, and the intervals' rates are 2 * 4 * 10^7.
 fn greatest() -> Filing {
     Filing {
-        costs: Row::of(&[COST, COST, COST]),
+        costs: Row::of(&[COST_LIMIT, COST_LIMIT, COST_LIMIT]),
         peaks: 96_000_000,
-        energy_cost: COST,
-        sent: SENT,
-        delivered: Row::of(&[DELIVERED, DELIVERED, DELIVERED]),
+        energy_cost: COST_LIMIT,
+        sent: SENT_LIMIT,
+        delivered: Row::of(&[DELIVERED_LIMIT, DELIVERED_LIMIT, DELIVERED_LIMIT]),
         factors: Row::of(&[1_000_000, 1_000_000, 1_000_000]),
         coefficients: Row::of(&[4_000, 4_000, 4_000]),
         interest: 1_000_000,
@@ -101,9 +95,9 @@ fn greatest() -> Filing {
 }
 
 /// Adds the filings to a list, each as one that does not fit.
-fn misfiled(list: &mut Vec<(Call, Told)>, filings: &[Filing]) -> Result<(), AllocError> {
+fn misfiled(list: &mut Vec<(Call, Reply)>, filings: &[Filing]) -> Result<(), AllocError> {
     for filing in filings {
-        list.push((Call::Tariff(*filing), Told::Refused(Refusal::Misfiled)))?;
+        list.push((Call::Tariff(*filing), Reply::Refused(Refusal::Misfiled)))?;
     }
     Ok(())
 }
@@ -112,10 +106,10 @@ fn misfiled(list: &mut Vec<(Call, Told)>, filings: &[Filing]) -> Result<(), Allo
 fn counts_fit_the_heads_and_figures_keep_their_ranges(rt: HostRuntime) -> Result<(), Fail> {
     let heap = rt.alloc();
     let mut list = Vec::new(heap);
-    list.push((year(), Told::Accepted))?;
+    list.push((year(), Reply::Accepted))?;
     misfiled(&mut list, &miscounted())?;
     misfiled(&mut list, &misfigured())?;
-    list.push((Call::Tariff(greatest()), Told::Accepted))?;
+    list.push((Call::Tariff(greatest()), Reply::Accepted))?;
     checked_answers(&rt, heap, &list)?;
     Ok(())
 }
@@ -134,7 +128,7 @@ fn misrated() -> [(Filing, usize); 8] {
     [
         (
             Filing {
-                costs: Row::of(&[COST, 486, 49]),
+                costs: Row::of(&[COST_LIMIT, 486, 49]),
                 ..filing
             },
             1,
@@ -198,12 +192,12 @@ fn misrated() -> [(Filing, usize); 8] {
 fn the_first_head_whose_rate_is_out_of_range_is_named(rt: HostRuntime) -> Result<(), Fail> {
     let heap = rt.alloc();
     let mut list = Vec::new(heap);
-    list.push((year(), Told::Accepted))?;
+    list.push((year(), Reply::Accepted))?;
     for (filing, head) in &misrated() {
         let refusal = Refusal::RateOutOfRange(*head);
-        list.push((Call::Tariff(*filing), Told::Refused(refusal)))?;
+        list.push((Call::Tariff(*filing), Reply::Refused(refusal)))?;
     }
-    list.push((tariff(), Told::Accepted))?;
+    list.push((tariff(), Reply::Accepted))?;
     checked_answers(&rt, heap, &list)?;
     Ok(())
 }
@@ -221,9 +215,9 @@ fn a_rate_at_its_limit_is_published(rt: HostRuntime) -> Result<(), Fail> {
         ..filing()
     };
     let list = [
-        (year(), Told::Accepted),
-        (Call::Tariff(greatest), Told::Accepted),
-        (tariff(), Told::Refused(Refusal::NotNow)),
+        (year(), Reply::Accepted),
+        (Call::Tariff(greatest), Reply::Accepted),
+        (tariff(), Reply::Refused(Refusal::NotNow)),
     ];
     checked_answers(&rt, rt.alloc(), &list)?;
     Ok(())

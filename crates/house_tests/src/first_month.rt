@@ -1,6 +1,6 @@
 //! The first month: metered, delivered, closed and paid.
 use crate::market::{checked_answers, sent, sheet_at, taken, tariff, year};
-use crate::told::Told;
+use crate::reply::Reply;
 use accounts::Sheet;
 use history::{Call, Named, Spending};
 use std::process::Abort;
@@ -20,14 +20,14 @@ fn check_sheet(rt: &impl Abort, sheet: &Sheet) -> Result<(), Fail> {
 fn a_month_is_closed_and_its_station_paid(rt: HostRuntime) -> Result<(), Fail> {
     let first = Named::Drawn(1);
     let list = [
-        (year(), Told::Accepted),
-        (tariff(), Told::Accepted),
-        (Call::Meter(sent()), Told::Metered(5_500_000)),
-        (Call::Deliver(taken()), Told::Accepted),
-        (Call::closing(1, 1), Told::Closed),
-        (Call::Draw(1), Told::Drawn(1, 550)),
-        (Call::Present(Spending::Release, first), Told::Paid(1, 550)),
-        (Call::Present(Spending::Hold, first), Told::Absent),
+        (year(), Reply::Accepted),
+        (tariff(), Reply::Accepted),
+        (Call::Meter(sent()), Reply::Metered(5_500_000)),
+        (Call::Deliver(taken()), Reply::Accepted),
+        (Call::closing(1, 1), Reply::Closed),
+        (Call::Draw(1), Reply::Drawn(1, 550)),
+        (Call::Present(Spending::Release, first), Reply::Paid(1, 550)),
+        (Call::Present(Spending::Hold, first), Reply::Absent),
     ];
     let answers = checked_answers(&rt, rt.alloc(), &list)?;
     check_sheet(&rt, sheet_at(&answers, 4).ok_or("the month is not closed")?)

@@ -1,8 +1,8 @@
 //! An order of another house: it comes back, stays where it was, and is held by the house that drew it.
 ghost use Rattle.std.specs.Prelude.{◌≡◌};
 
-use crate::market::{SERIAL, agreement, calls_in, check_told, filing, sent, tariff, year};
-use crate::told::Told;
+use crate::market::{SERIAL, agreement, calls_in, check_replies, filing, sent, tariff, year};
+use crate::reply::Reply;
 use agreements::TwoPart;
 use banks::One;
 use history::{Answer, Call, Named, NewHouse, Orders, Spending, Unperformed};
@@ -16,11 +16,11 @@ use std::test::Fail;
 /// The number that the other house's orders bear.
 const OTHER: u64 = 8;
 
-/// `worked_cases` has this market too, above crates that these tests have no use for: taking it from there is no plainer.
+/// The other house.
 type Market = House<One<TwoPart>, ThreeIntervals>;
 
 /// The other house takes its first reading, for which 5,500,000 grains are due.
-fn metered(house: &mut Market) -> Result<(), Refusal> {
+fn metered(house: &mut Market) -> Result<u64, Refusal> {
     house.year(&worked_figures::year())?;
     house.tariff(&filing())?;
     house.meter(&sent())
@@ -54,27 +54,27 @@ fn an_order_of_another_house_comes_back(rt: HostRuntime) -> Result<(), Fail> {
     let release = Spending::Release;
     let hold = Spending::Hold;
     let list = [
-        (year(), Told::Accepted),
-        (tariff(), Told::Accepted),
-        (Call::Meter(sent()), Told::Metered(5_500_000)),
-        (Call::Draw(1), Told::Drawn(1, 550)),
-        (Call::Present(release, Named::Other(1)), Told::Returned),
-        (Call::Present(hold, Named::Other(1)), Told::Returned),
-        (Call::Present(hold, Named::Other(2)), Told::Absent),
-        (Call::Present(release, Named::Drawn(1)), Told::Paid(1, 550)),
+        (year(), Reply::Accepted),
+        (tariff(), Reply::Accepted),
+        (Call::Meter(sent()), Reply::Metered(5_500_000)),
+        (Call::Draw(1), Reply::Drawn(1, 550)),
+        (Call::Present(release, Named::Other(1)), Reply::Returned),
+        (Call::Present(hold, Named::Other(1)), Reply::Returned),
+        (Call::Present(hold, Named::Other(2)), Reply::Absent),
+        (Call::Present(release, Named::Drawn(1)), Reply::Paid(1, 550)),
     ];
     let calls = calls_in(rt.alloc(), &list)?;
     let mut other: Market = House::new(One::new(agreement()), ThreeIntervals, OTHER);
-    metered(&mut other).map_err(|_| "the other house takes no reading")?;
+    let dues = metered(&mut other).map_err(|_| "the other house takes no reading")?;
     let order = other.draw(1).map_err(|_| "nothing stands at the place")?;
     let on_orders = other.ledger().till.money(1).on_orders;
     let (outcome, order) = answers_beside(rt.alloc(), order, &calls);
     other.hold(order).unwrap();
-    check_told(&rt, &outcome?, &list);
+    check_replies(&rt, &outcome?, &list);
     let money = other.ledger().till.money(1);
     assert_eq!(rt;
-        (on_orders, money.on_orders, money.standing),
-        (550, 0, 5_500_000)
+        (dues, on_orders, money.on_orders, money.standing),
+        (5_500_000, 550, 0, 5_500_000)
     );
     Ok(())
 }

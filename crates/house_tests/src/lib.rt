@@ -16,4 +16,4 @@ mod money;
 #[cfg(test)]
 mod refusals;
 #[cfg(test)]
-mod told;
+mod reply;

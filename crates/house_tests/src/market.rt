@@ -1,5 +1,5 @@
 //! A market with one station and one licensee, and the calls that are made of its house.
-use crate::told::Told;
+use crate::reply::Reply;
 use accounts::Sheet;
 use banks::{Bank, One};
 use history::{Answer, Call, NewHouse};
@@ -14,8 +14,7 @@ pub use worked_figures::{agreement, sent, taken, tariff as filing};
 /// The number that the house's pay orders bear.
 pub const SERIAL: u64 = 7;
 
-/// What a meter measured in each block: kW, and kWh. A reading that is refused is told as one with nothing in it, here and
-/// below, so that each list of calls can be written down at once; none of these is refused.
+/// What a meter measured in each block: kW, and kWh. Figures that make no reading give one with nothing in it.
 pub fn metered(kind: Kind, number: u32, demand: u32, blocks: [u32; BLOCKS]) -> Reading {
     let figures = Figures {
         kind: u32::from(kind),
@@ -28,7 +27,7 @@ pub fn metered(kind: Kind, number: u32, demand: u32, blocks: [u32; BLOCKS]) -> R
     reading
 }
 
-/// What a meter measured: kW, and kWh at 01:00, 06:00 and 19:00.
+/// What a meter measured: kW, and kWh at 01:00, 06:00 and 19:00. Figures that make no reading give one with nothing in it.
 pub fn reading_of(kind: Kind, number: u8, demand: u32, energies: [u32; 3]) -> Reading {
     worked_figures::measured(kind, number, demand, energies).unwrap_or(Reading::empty())
 }
@@ -62,7 +61,7 @@ pub fn answers_of<B: Bank + Drop>(
 }
 
 /// The calls of a list in which each has its answer beside it.
-pub fn calls_in(heap: Global, list: &[(Call, Told)]) -> Result<Vec<Call>, AllocError> {
+pub fn calls_in(heap: Global, list: &[(Call, Reply)]) -> Result<Vec<Call>, AllocError> {
     let mut calls = Vec::new(heap);
     for (call, _) in list {
         calls.push(*call)?;
@@ -71,10 +70,10 @@ pub fn calls_in(heap: Global, list: &[(Call, Told)]) -> Result<Vec<Call>, AllocE
 }
 
 /// Sees that the answers are the ones beside the calls of a list.
-pub fn check_told(rt: &impl Abort, answers: &[Answer], list: &[(Call, Told)]) {
+pub fn check_replies(rt: &impl Abort, answers: &[Answer], list: &[(Call, Reply)]) {
     assert_eq!(rt; answers.len(), list.len());
-    for (place, (answer, (_, told))) in answers.iter().zip(list).enumerate() {
-        assert_eq!(rt; Told::from(answer), *told, "at {place}");
+    for (place, (answer, (_, reply))) in answers.iter().zip(list).enumerate() {
+        assert_eq!(rt; Reply::from(answer), *reply, "at {place}");
     }
 }
 
@@ -83,11 +82,11 @@ pub fn checked_answers_of<B: Bank + Drop>(
     rt: &impl Abort,
     heap: Global,
     bank: B,
-    list: &[(Call, Told)],
+    list: &[(Call, Reply)],
 ) -> Result<Vec<Answer>, Fail> {
     let calls = calls_in(heap, list)?;
     let answers = answers_of(heap, bank, &calls)?;
-    check_told(rt, &answers, list);
+    check_replies(rt, &answers, list);
     Ok(answers)
 }
 
@@ -95,7 +94,7 @@ pub fn checked_answers_of<B: Bank + Drop>(
 pub fn checked_answers(
     rt: &impl Abort,
     heap: Global,
-    list: &[(Call, Told)],
+    list: &[(Call, Reply)],
 ) -> Result<Vec<Answer>, Fail> {
     checked_answers_of(rt, heap, One::new(agreement()), list)
 }

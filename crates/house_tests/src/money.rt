@@ -1,26 +1,23 @@
 //! The money of a place that is not drawn for years.
-use crate::market::{answers_of, check_told, filing, metered, year};
-use crate::told::Told;
+use crate::market::{answers_of, check_replies, filing, metered, year};
+use crate::reply::Reply;
 use agreements::TwoPart;
+use agreements::limits::CONTRACTED_LIMIT;
+use arith::{CENT, DEMAND_RATE_LIMIT, ENERGY_RATE_LIMIT};
 use banks::One;
 use history::{Answer, Call, Named, Spending};
 use ledger::Refusal;
-use metering::{BLOCKS, Kind};
+use metering::{BLOCKS, DEMAND_LIMIT, ENERGY_LIMIT, Kind};
 use std::alloc::{AllocError, Global};
 use std::process::Abort;
 use std::test::Fail;
 use tariffs::{Filing, Row};
 
-/// The most that a meter may show, kW, and in each block, kWh.
-const DEMAND: u32 = 2_000_000;
-
-const ENERGY: u32 = 20_000_000;
-
 /// Dues at both prices' limits: 2,000,000 * 5 * 10^10 and 960,000,000 * 10^8 grains.
 const DUES: u64 = 100_000_000_000_000_000 + 96_000_000_000_000_000;
 
 /// What twenty months of them come to, cents.
-const CENTS: u64 = 20 * DUES / 10_000;
+const CENTS: u64 = 20 * DUES / CENT;
 
 /// A tariff by which licensees pay just what is due: G at 5,000,000 cents over a peak of 1, and GE at 10^8.
 fn even() -> Call {
@@ -36,11 +33,11 @@ fn even() -> Call {
 }
 
 fn sent_most() -> Call {
-    Call::Meter(metered(Kind::Generator, 1, DEMAND, [ENERGY; BLOCKS]))
+    Call::Meter(metered(Kind::Generator, 1, DEMAND_LIMIT, [ENERGY_LIMIT; BLOCKS]))
 }
 
 fn taken_most() -> Call {
-    Call::Deliver(metered(Kind::Licensee, 1, DEMAND, [ENERGY; BLOCKS]))
+    Call::Deliver(metered(Kind::Licensee, 1, DEMAND_LIMIT, [ENERGY_LIMIT; BLOCKS]))
 }
 
 /// Closes so many months.
@@ -80,21 +77,21 @@ fn a_place_holds_no_more_than_its_limit(rt: HostRuntime) -> Result<(), Fail> {
     twenty_months(&mut calls)?;
     assert_eq!(rt; calls.len(), 66);
     let list = [
-        (sent_most(), Told::Refused(Refusal::TooMuch)),
-        (Call::Draw(1), Told::Drawn(1, CENTS)),
-        (sent_most(), Told::Refused(Refusal::TooMuch)),
+        (sent_most(), Reply::Refused(Refusal::TooMuch)),
+        (Call::Draw(1), Reply::Drawn(1, CENTS)),
+        (sent_most(), Reply::Refused(Refusal::TooMuch)),
         (
             Call::Present(Spending::Release, Named::Drawn(1)),
-            Told::Paid(1, CENTS),
+            Reply::Paid(1, CENTS),
         ),
-        (sent_most(), Told::Metered(DUES)),
+        (sent_most(), Reply::Metered(DUES)),
     ];
     for (call, _) in &list {
         calls.push(*call)?;
     }
-    let agreement = TwoPart::new(2_000_000, 50_000_000_000, 100_000_000).unwrap();
+    let agreement = TwoPart::new(CONTRACTED_LIMIT, DEMAND_RATE_LIMIT, ENERGY_RATE_LIMIT).unwrap();
     let answers = answers_of(heap, One::new(agreement), &calls)?;
     check_accepted(&rt, &answers, 66);
-    check_told(&rt, answers.get(66..).unwrap_or(&[]), &list);
+    check_replies(&rt, answers.get(66..).unwrap_or(&[]), &list);
     Ok(())
 }

@@ -2,6 +2,7 @@
 ghost use Rattle.std.specs.Prelude.{◌<◌};
 
 use accounts::Sheet;
+use arith::CENT;
 use history::Answer;
 use std::alloc::{AllocError, Global};
 
@@ -18,7 +19,7 @@ pub fn sheets_of(heap: Global, answers: &[Answer]) -> Result<Vec<Sheet>, AllocEr
 const DEMAND: i128 = 90;
 
 /// What the months spread under a revenue, grains: each month's rate over the demand, and what it carries on less what the
-/// month before carried on. A loop: what is carried goes along from one sheet to the next.
+/// month before carried on.
 pub fn spread(sheets: &[Sheet], head: usize, before: u64) -> i128
     requires { head < 6 }
 {
@@ -40,7 +41,7 @@ fn billed(sheet: &Sheet) -> i128 {
         .licensees
         .iter()
         .flatten()
-        .map(|billed| 10_000 * i128::from(billed.bill))
+        .map(|billed| i128::from(CENT) * i128::from(billed.bill))
         .fold(0, |sum, bill| sum.wrapping_add(bill))
 }
 

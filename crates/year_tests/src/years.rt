@@ -4,6 +4,7 @@ ghost use Rattle.std.specs.Prelude.{◌<◌};
 use crate::plan::{Plan, answers_to, half_year, three, two, two_years};
 use crate::sums::{accounted, dues, payments, sheets_of, spread, standing};
 use accounts::Sheet;
+use arith::CENT;
 use history::{Answer, Call};
 use ledger::Refusal;
 use methodology::{Methodology, ThreeIntervals, TwoIntervals};
@@ -75,7 +76,7 @@ fn check_revenues(
         let carried = before.map_or(0, |sheet| sheet.heads[head].carry);
         assert_eq!(rt;
             spread(sheets, head, carried),
-            10_000 * i128::from(*figure),
+            i128::from(CENT) * i128::from(*figure),
             "head {head}"
         );
     }
@@ -97,7 +98,7 @@ fn check_account(
         .revenues
         .iter()
         .flat_map(|row| &row.figures)
-        .map(|figure| 10_000 * i128::from(*figure))
+        .map(|figure| i128::from(CENT) * i128::from(*figure))
         .fold(dues, |sum, more| sum.wrapping_add(more));
     assert_eq!(rt; accounted(sheets).wrapping_add(standing(last)), income);
     Ok(())
