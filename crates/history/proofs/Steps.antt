@@ -36,7 +36,7 @@ use Rattle.history.specs.Slots.{slot, in_slots, slots_of}
 use Rattle.history.specs.Presenting.{Spends, After, Missing, Presentation}
 use Rattle.history.specs.Histories.{told, meter_told, answer_to, named, hand_drawn, Makes, History, begun, made, lacking, Performed, Next}
 use Rattle.history.specs.Bearing.{any_bears, all_bear, Foreign}
-use Rattle.history.specs.Steps.{close_told, Closes, draw_told, Draws, Stepped}
+use Rattle.history.specs.Steps.{close_told, Closes, draw_told, DrawsInHand, Stepped}
 use Rattle.history.proofs.Slots.{none_not_some, some_same, numbered, without_long, among_slots, slots_more}
 
 -- orders of other houses
@@ -97,7 +97,7 @@ module _ (shape : Shape) (market : Market) (row : List Meaning) (serial : ℕ) (
   drawn_slots (Ok o) hand = sym (slots_more hand o)
   drawn_slots (Err why) hand = refl
 
-  pub next_draw : (place : ℕ) (a : Answer) (hand hand' : List (Option PayOrder)) (v w : View) → Draws v place hand a hand' w → Next shape market row serial others (Draw place) a hand v hand' w
+  pub next_draw : (place : ℕ) (a : Answer) (hand hand' : List (Option PayOrder)) (v w : View) → DrawsInHand v place hand a hand' w → Next shape market row serial others (Draw place) a hand v hand' w
   next_draw place a hand hand' v w (r, is, left, m) cs answers y =
       more (Draw place) (draw place r) a cs answers y (r, refl, left)
       (subst (λ os. Run shape market row serial (draw place r ∷ y.events) os w) (drawn_slots r hand ∙ ap in_slots (sym left)) (step (draw place r) _ y.run m refl))
@@ -190,7 +190,7 @@ drawn_long : (r : Result PayOrder Refusal) (hand : List (Option PayOrder)) → l
 drawn_long (Ok o) hand = let long = length-append hand (Some o ∷ []) in omega arith
 drawn_long (Err why) hand = omega arith
 
-pub draws_long : (v : View) (place : ℕ) (hand : List (Option PayOrder)) (a : Answer) (hand' : List (Option PayOrder)) (w : View) → Draws v place hand a hand' w → length hand' ≤ length hand + 1
+pub draws_long : (v : View) (place : ℕ) (hand : List (Option PayOrder)) (a : Answer) (hand' : List (Option PayOrder)) (w : View) → DrawsInHand v place hand a hand' w → length hand' ≤ length hand + 1
 draws_long v place hand a hand' w (r, is, left, m) = let most = drawn_long r hand in let same = ap length left in omega arith
 
 -- a call that leaves every order where it was

@@ -10,7 +10,7 @@ use Rattle.history.specs.declared.desk.Desk.{Desk}
 use Rattle.history.specs.declared.order_list.Orders.{Orders}
 use Rattle.history.specs.Bearing.{Foreign}
 use Rattle.history.specs.Slots.{slots_of, room_in}
-use Rattle.history.specs.Steps.{Draws, Stepped}
+use Rattle.history.specs.Steps.{DrawsInHand, Stepped}
 
 module _ {B M : Type 0} {bank : BankGhosts B} {market : MarketGhosts M} where
   -- an order more can be kept in hand
@@ -23,7 +23,7 @@ module _ {B M : Type 0} {bank : BankGhosts B} {market : MarketGhosts M} where
 
   -- a draw, whose order comes in hand
   abbrev pub DrawsInto : Desk B M bank market → ℕ → Answer → Desk B M bank market → Type 0
-  DrawsInto d place a d' = Draws (shows d.house) place (slots_of d.hand) a (slots_of d'.hand) (shows d'.house)
+  DrawsInto d place a d' = DrawsInHand (shows d.house) place (slots_of d.hand) a (slots_of d'.hand) (shows d'.house)
 
   -- a call of a list, beside orders of other houses
   abbrev pub Steps : Desk B M bank market → Orders → Call → Answer → Desk B M bank market → Orders → Type 0

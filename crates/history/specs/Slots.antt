@@ -1,5 +1,6 @@
--- Orders under numbers.
-use Rattle.std.specs.Prelude.{◌≡◌, ℕ, ◌-◌, ◌<◌, ◌≤◌, cond, List, [], ◌∷◌, ◌++◌, length, Some, None, Ok, Err, vec_items, vec_capacity, Option, Result, nat_le, slice_index_or, slice_set}
+-- Orders under numbers: each in a slot.
+use Rattle.std.specs.Prelude.{◌≡◌, ℕ, ◌-◌, ◌<◌, ◌≤◌, cond, List, [], ◌∷◌, ◌++◌, length, Some, None, Ok, Err, vec_items, vec_capacity, Option, Result, nat_le, slice_index_or, slice_set, MatchOption, ◌≢◌}
+use Rattle.std.specs.Option.{option_to_list}
 use Rattle.orders.specs.declared.order.PayOrder.{PayOrder}
 use Rattle.history.specs.declared.order_list.Orders.{Orders}
 
@@ -31,3 +32,17 @@ Leaves before slots after = (slots_of after ≡ slots) × (room_in after ≡ roo
 abbrev pub Adds : Orders → PayOrder → Result (Unit {0}) PayOrder → Orders → Type 0
 Adds before o (Ok _) after = (length (slots_of before) < room_in before) × (slots_of after ≡ slots_of before ++ (Some o ∷ [])) × (room_in after ≡ room_in before)
 Adds before o (Err back) after = (room_in before ≤ length (slots_of before)) × (back ≡ o) × (after ≡ before)
+
+-- the last order is taken out, if there is one, and the others stay
+abbrev pub TakesLast : Orders → Option PayOrder → Orders → Type 0
+TakesLast before taken after = in_slots (slots_of before) ≡ in_slots (slots_of after) ++ option_to_list taken
+
+-- and the list is shorter, or has come to its end
+abbrev pub Shortens : Orders → Option PayOrder → Orders → Type 0
+Shortens before taken after =
+    MatchOption taken (slots_of after ≡ []) (λ _. length (slots_of after) < length (slots_of before))
+
+-- a list without numbers is let go, and another comes back
+abbrev pub Ends : Orders → Result (Unit {0}) Orders → Type 0
+Ends o (Ok _) = slots_of o ≡ []
+Ends o (Err back) = (back ≡ o) × (slots_of o ≢ [])

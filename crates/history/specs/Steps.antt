@@ -29,8 +29,8 @@ abbrev pub draw_told : Result PayOrder Refusal → Answer
 draw_told (Ok o) = Drawn o.place o.cents
 draw_told (Err why) = Refused why
 
-abbrev pub Draws : View → ℕ → List (Option PayOrder) → Answer → List (Option PayOrder) → View → Type 0
-Draws v place hand a hand' w = (r : Result PayOrder Refusal) × (a ≡ draw_told r) × (hand' ≡ hand_drawn r hand) × calls.Draw v place r w
+abbrev pub DrawsInHand : View → ℕ → List (Option PayOrder) → Answer → List (Option PayOrder) → View → Type 0
+DrawsInHand v place hand a hand' w = (r : Result PayOrder Refusal) × (a ≡ draw_told r) × (hand' ≡ hand_drawn r hand) × calls.Draw v place r w
 
 -- a call more is made: what was performed before it is performed with it, the orders of other houses stay where they are, and one order more is in hand at most
 pub record Stepped (c : Call) (a : Answer) (v : View) (hand others : Orders) (w : View) (hand' others' : Orders) : Type 0 where

@@ -19,6 +19,7 @@ pub enum Answer {
     Drawn(u8, u64),
     /// An order was released: its place and its cents.
     Paid(u8, u64),
+    /// The call was refused.
     Refused(Refusal),
     /// The order was not the house's own, and came back.
     Returned,

@@ -17,19 +17,28 @@ pub enum Named {
 /// How many readings and deliveries a month must have.
 #[derive(Clone, Copy)]
 pub struct Stated {
+    /// By stations.
     pub readings: usize,
+    /// By licensees.
     pub deliveries: usize,
 }
 
 /// A call to make of a house. Its orders are named by number.
 #[derive(Clone, Copy)]
 pub enum Call {
+    /// File a year's revenues, cents.
     Year(Row),
+    /// Publish a tariff.
     Tariff(Filing),
+    /// Take a station's reading.
     Meter(Reading),
+    /// Take a licensee's reading.
     Deliver(Reading),
+    /// Close the month.
     Close(Stated),
+    /// Draw an order on the place with this number.
     Draw(u8),
+    /// Present an order.
     Present(Spending, Named),
 }
 

@@ -17,7 +17,9 @@ use std::alloc::{AllocError, Global};
 /// What a house is to be made of.
 #[derive(Drop)]
 pub struct NewHouse<B, M> {
+    /// The stations' agreements.
     pub bank: B,
+    /// The market's own rules.
     pub methodology: M,
     /// The number that its pay orders are to bear, which should be one that no other house's orders bear.
     pub serial: u64,

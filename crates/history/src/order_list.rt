@@ -1,15 +1,14 @@
 //! Orders under numbers.
-ghost use Rattle.std.specs.Prelude.{◌≡◌, ◌<◌, ◌≤◌, [], ◌∷◌, ◌++◌, length, IfOk, Some, Ok, Err, MatchOption, ◌≢◌};
-ghost use Rattle.std.specs.Option.{option_to_list};
-ghost use Rattle.history.specs.Slots.{slots_of, slot, room_in, without, in_slots, Leaves, Adds};
+ghost use Rattle.std.specs.Prelude.{◌≡◌, ◌<◌, ◌≤◌, [], ◌∷◌, ◌++◌, length, IfOk, Some};
+ghost use Rattle.history.specs.Slots.{slots_of, slot, room_in, without, Leaves, Adds, TakesLast, Shortens, Ends};
 ghost use Rattle.history.specs.Bearing.{slot_bears, any_bears};
 
 use metering::index_of;
 use orders::PayOrder;
 use std::alloc::{AllocError, Global};
 
-/// Each order stands at its number, counted from 1, until it is taken out. No order can be let go, and so neither can these.
-/// A place may be empty: the number of a draw is the order's name, so none moves up, and none can be dropped to make room.
+/// Each order stands in a slot under its number, counted from 1, until it is taken out; the slot is then empty, and no other
+/// order moves up. No order can be let go, and so neither can a list of them: it ends when no slot is left.
 pub struct Orders {
     pub(crate) slots: Vec<Option<PayOrder>>,
 }
@@ -67,8 +66,8 @@ impl Orders {
 
     /// Takes out the order with the highest number, and with it the numbers from there on.
     pub fn take_last(&mut self) -> Option<PayOrder>
-        ensures taken { in_slots (slots_of self.old) ≡ in_slots (slots_of self.new) ++ option_to_list result }
-        ensures shorter { MatchOption result (slots_of self.new ≡ []) (λ _. length (slots_of self.new) < length (slots_of self.old)) }
+        ensures taken { TakesLast self.old result self.new }
+        ensures shorter { Shortens self.old result self.new }
     {
         while let Some(last) = self.slots.pop() {
             if let Some(order) = last {
@@ -80,7 +79,7 @@ impl Orders {
 
     /// Lets the list go, if no number is left in it.
     pub fn end(self) -> Result<(), Orders>
-        ensures { elim result [ Ok _ ↦ slots_of self ≡ [] | Err o ↦ (o ≡ self) × (slots_of self ≢ []) ] }
+        ensures { Ends self result }
     {
         if !self.slots.is_empty() {
             return Err(self);

@@ -12,11 +12,14 @@ use house::House;
 use methodology::Methodology;
 use std::alloc::AllocError;
 
-/// The house, an answer for each call in the order of the list, and the orders that are still in hand, each under the number
+/// A list of calls that was performed. The answers come in the order of the list, and an order in hand stands under the number
 /// of its draw.
 pub struct Performance<B: Bank, M: Methodology> {
+    /// The house after the last call.
     pub house: House<B, M>,
+    /// What was answered to each call.
     pub answers: Vec<Answer>,
+    /// The orders in hand.
     pub hand: Orders,
     /// The orders are the house's own, and all that it has money on orders for.
     ghost own: { all_bear house.ledger.till.serial (in_slots (slots_of hand)) ≡ true },

@@ -1,4 +1,4 @@
-//! The ledger of a house: all that it keeps beside its bank and its methodology, what its calls mean, and the law over every list of them.
+//! The ledger of a house: what it keeps in plain numbers, what its calls mean, and the law over every list of them.
 #![tactic(auto)]
 
 pub mod ledger;

@@ -38,14 +38,14 @@ PutsOff v o (Ok (TurnedAway number paid)) w = ⊥
 PutsOff v o (Err back) w = (mine (till_of v) o ≡ false) × (back.order ≡ o) × (w ≡ v)
 
 -- an order is presented at a desk: paid there, or else kept by its owner, or else handed back
-abbrev pub Presents : View → View → PayOrder → Result Settled Returned → View → View → Type 0
-Presents desk owner o (Ok (Released paid)) desk' owner' =
+abbrev pub PresentsAtDesk : View → View → PayOrder → Result Settled Returned → View → View → Type 0
+PresentsAtDesk desk owner o (Ok (Released paid)) desk' owner' =
     (mine (till_of desk) o ≡ true) × Of o paid × Pays desk o desk' × (owner' ≡ owner)
-Presents desk owner o (Ok (Held paid)) desk' owner' = ⊥
-Presents desk owner o (Ok (TurnedAway number paid)) desk' owner' =
+PresentsAtDesk desk owner o (Ok (Held paid)) desk' owner' = ⊥
+PresentsAtDesk desk owner o (Ok (TurnedAway number paid)) desk' owner' =
     (mine (till_of desk) o ≡ false) × (mine (till_of owner) o ≡ true)
     × (number ≡ returned_number) × Of o paid × (desk' ≡ desk) × Keeps owner o owner'
-Presents desk owner o (Err back) desk' owner' =
+PresentsAtDesk desk owner o (Err back) desk' owner' =
     (mine (till_of desk) o ≡ false) × (mine (till_of owner) o ≡ false)
     × (back.order ≡ o) × (desk' ≡ desk) × (owner' ≡ owner)
 

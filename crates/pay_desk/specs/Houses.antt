@@ -11,17 +11,14 @@ use Rattle.pay_desk.specs.declared.desk.Settled.{Settled}
 use Rattle.pay_desk.specs.Desk as desk
 
 module _ {B M : Type 0} {bank : BankGhosts B} {market : MarketGhosts M} where
-  abbrev Market : Type 0
-  Market = House B M bank market
-
-  abbrev pub PutsOff : Market → PayOrder → Result Settled Returned → Market → Type 0
+  abbrev pub PutsOff : House B M bank market → PayOrder → Result Settled Returned → House B M bank market → Type 0
   PutsOff h o r h' = desk.PutsOff (shows h) o r (shows h')
 
-  abbrev pub Presents : Market → Market → PayOrder → Result Settled Returned → Market → Market → Type 0
-  Presents at owner o r at' owner' = desk.Presents (shows at) (shows owner) o r (shows at') (shows owner')
+  abbrev pub PresentsAtDesk : House B M bank market → House B M bank market → PayOrder → Result Settled Returned → House B M bank market → House B M bank market → Type 0
+  PresentsAtDesk at owner o r at' owner' = desk.PresentsAtDesk (shows at) (shows owner) o r (shows at') (shows owner')
 
-  abbrev pub Settles : ℕ → Market → ℕ → Result Settled Refusal → Market → Type 0
+  abbrev pub Settles : ℕ → House B M bank market → ℕ → Result Settled Refusal → House B M bank market → Type 0
   Settles most h p r h' = desk.Settles most (shows h) p r (shows h')
 
-  abbrev pub Elsewhere : Market → Market → ℕ → Result Settled Refusal → Market → Market → Type 0
+  abbrev pub Elsewhere : House B M bank market → House B M bank market → ℕ → Result Settled Refusal → House B M bank market → House B M bank market → Type 0
   Elsewhere at owner p r at' owner' = desk.Elsewhere (shows at) (shows owner) p r (shows at') (shows owner')

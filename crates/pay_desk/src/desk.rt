@@ -1,7 +1,7 @@
 //! What a pay desk does with orders. Whoever has one in hand must see it released or held: each of these functions ends with
 //! the order taken in by a house, or hands it back.
 ghost use Rattle.std.specs.Prelude.{◌≡◌};
-ghost use Rattle.pay_desk.specs.Houses.{PutsOff, Presents, Settles, Elsewhere};
+ghost use Rattle.pay_desk.specs.Houses.{PutsOff, PresentsAtDesk, Settles, Elsewhere};
 
 use banks::Bank;
 use house::House;
@@ -48,7 +48,7 @@ pub fn present<B: Bank, M: Methodology>(
     owner: &mut House<B, M>,
     order: PayOrder,
 ) -> Result<Settled, Returned>
-    ensures { Presents desk.old owner.old order result desk.new owner.new }
+    ensures { PresentsAtDesk desk.old owner.old order result desk.new owner.new }
 {
     let paid = paid_by(&order);
     match desk.release(order) {
