@@ -96,10 +96,10 @@ delivery_answer m reading =
     cond (nat_lt licensee_limit reading.number) (Err delivery.NoLicensee) (cond (delivered_at m reading.number) (Err delivery.Again) (Ok tt))
 
 -- adding a reading: what is answered, and the month after it, which a refusal leaves as it was
-pub record Adds (r : Rules) (m : Month) (reading : Reading) (dues : Dues) (answer : Result (Unit {0}) Unadded) (m' : Month) : Type 0 where
+pub record Add (r : Rules) (m : Month) (reading : Reading) (dues : Dues) (answer : Result (Unit {0}) Unadded) (m' : Month) : Type 0 where
   pub answered : answer ≡ reading_answer m reading dues
   pub after : MatchResult answer (λ _. Generated r m reading dues m') (λ _. m' ≡ m)
 
-pub record Delivers (r : Rules) (m : Month) (reading : Reading) (answer : Result (Unit {0}) Undelivered) (m' : Month) : Type 0 where
+pub record AddDelivery (r : Rules) (m : Month) (reading : Reading) (answer : Result (Unit {0}) Undelivered) (m' : Month) : Type 0 where
   pub answered : answer ≡ delivery_answer m reading
   pub after : MatchResult answer (λ _. Delivered r m reading m') (λ _. m' ≡ m)

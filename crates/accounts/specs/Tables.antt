@@ -10,8 +10,8 @@ abbrev pub ByHead : List ℕ → (ℕ → ℕ) → Type 0
 ByHead table f = (k : ℕ) → k < head_limit → slice_index table k ≡ f k
 
 -- no figure of a table is over a limit
-abbrev pub Within : ℕ → List ℕ → Type 0
-Within limit table = (k : ℕ) → k < head_limit → slice_index table k ≤ limit
+abbrev pub TableWithin : ℕ → List ℕ → Type 0
+TableWithin limit table = (k : ℕ) → k < head_limit → slice_index table k ≤ limit
 
 -- all of a table, added up
 abbrev pub summed : List ℕ → ℕ
@@ -37,5 +37,5 @@ abbrev pub under_by : Rules → ℕ → ℕ → List ℕ → ℕ → ℕ
 under_by r first others blocks k = under r.revenues r.interval first others blocks k
 
 -- the same before any block
-abbrev pub by_demand : ℕ → ℕ → ℕ → ℕ → ℕ
-by_demand revenues first others k = if nat_eq k 0 then first else (if nat_le k revenues then others else 0)
+abbrev pub under_demand : ℕ → ℕ → ℕ → ℕ → ℕ
+under_demand revenues first others k = if nat_eq k 0 then first else (if nat_le k revenues then others else 0)

@@ -2,7 +2,7 @@
 ghost use Rattle.std.specs.Prelude.{◌≡◌, length};
 ghost use Rattle.metering.specs.Limits.{reading_limit};
 ghost use Rattle.methodology.specs.Limits.{head_limit};
-ghost use Rattle.accounts.specs.Tables.{Within};
+ghost use Rattle.accounts.specs.Tables.{TableWithin};
 
 use rates::HEADS;
 
@@ -11,5 +11,5 @@ use rates::HEADS;
 pub struct Delivery {
     pub taken: [u64; HEADS],
     ghost full: { length taken ≡ head_limit },
-    ghost fair: { Within reading_limit taken },
+    ghost fair: { TableWithin reading_limit taken },
 }

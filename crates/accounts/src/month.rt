@@ -6,7 +6,7 @@ ghost use Rattle.agreements.specs.Limits.{due_limit};
 ghost use Rattle.agreements.specs.Dues.{capacity_due, block_sum};
 ghost use Rattle.accounts.specs.Rules.{rules_by};
 ghost use Rattle.accounts.specs.Counts.{count_true};
-ghost use Rattle.accounts.specs.Tables.{Within, summed};
+ghost use Rattle.accounts.specs.Tables.{TableWithin, summed};
 
 use crate::delivery::Delivery;
 use crate::tables::{added, by_head, widened};
@@ -31,13 +31,15 @@ pub struct Month {
     ghost metered: { length sent ≡ head_limit },
     ghost full: { length read ≡ place_limit },
     ghost listed: { length licensees ≡ licensee_limit },
-    ghost earned: { Within (count_true read * due_limit) income },
+    ghost earned: { TableWithin (count_true read * due_limit) income },
     ghost whole: { summed income ≤ count_true read * (2 * due_limit) },
-    ghost supplied: { Within (count_true read * reading_limit) sent },
+    ghost supplied: { TableWithin (count_true read * reading_limit) sent },
 }
 
 impl Month {
-    ghost use Rattle.accounts.specs.Months.{Opened, readings_in, deliveries_in, read_at, delivered_at, IncomeWith, SentWith, Generated, Delivered, Adds, Delivers};
+    ghost use Rattle.accounts.specs.Months.{Opened, readings_in, deliveries_in, read_at};
+    ghost use Rattle.accounts.specs.Months.{delivered_at, IncomeWith, SentWith, Generated};
+    ghost use Rattle.accounts.specs.Months.{Delivered, Add, AddDelivery};
 
     /// A month without readings.
     pub fn open() -> Month
@@ -95,7 +97,7 @@ impl Month {
         reading: &Reading,
         dues: &Dues,
     ) -> Result<(), Unadded>
-        ensures { Adds (rules_by M.Methodology m.now) self.old reading.now dues.now result self.new }
+        ensures { Add (rules_by M.Methodology m.now) self.old reading.now dues.now result self.new }
     {
         if self.is_read(reading.number) {
             return Err(Unadded::Again);
@@ -114,7 +116,7 @@ impl Month {
         m: &M,
         reading: &Reading,
     ) -> Result<(), Undelivered>
-        ensures { Delivers (rules_by M.Methodology m.now) self.old reading.now result self.new }
+        ensures { AddDelivery (rules_by M.Methodology m.now) self.old reading.now result self.new }
     {
         if reading.number > LICENSEES {
             return Err(Undelivered::NoLicensee);

@@ -2,7 +2,7 @@
 ghost use Rattle.std.specs.Prelude.{◌≡◌, ◌+◌, ◌^◌, ◌<◌, slice_index};
 ghost use Rattle.accounts.specs.Limits.{balance_limit};
 ghost use Rattle.accounts.specs.Rules.{rules_by};
-ghost use Rattle.accounts.specs.Tables.{ByHead, Within, under_by, by_demand, total};
+ghost use Rattle.accounts.specs.Tables.{ByHead, TableWithin, under_by, under_demand, total};
 
 use metering::BLOCKS;
 use methodology::{Methodology, head_of_block};
@@ -19,7 +19,7 @@ pub fn by_head<M: Methodology>(
     requires { total blocks.now < 2 ^ 64 }
     ensures { ByHead result (under_by (rules_by M.Methodology m.now) first others blocks.now) }
 {
-    let mut all = by_demand(M::shape().revenues, first, others);
+    let mut all = under_demand(M::shape().revenues, first, others);
     for (block, energy) in blocks.iter().enumerate() {
         all[head_of_block(m, block) - 1] += *energy;
     }
@@ -27,8 +27,8 @@ pub fn by_head<M: Methodology>(
 }
 
 /// The same before any block.
-fn by_demand(revenues: usize, first: u64, others: u64) -> [u64; HEADS]
-    ensures { ByHead result (by_demand revenues first others) }
+fn under_demand(revenues: usize, first: u64, others: u64) -> [u64; HEADS]
+    ensures { ByHead result (under_demand revenues first others) }
 {
     array::from_fn(|k| {
         if k == 0 {
@@ -43,7 +43,7 @@ fn by_demand(revenues: usize, first: u64, others: u64) -> [u64; HEADS]
 
 /// Two tables added, head by head.
 pub fn added(a: &[u64; HEADS], b: &[u64; HEADS]) -> [u64; HEADS]
-    requires { (Within balance_limit a.now) × (Within balance_limit b.now) }
+    requires { (TableWithin balance_limit a.now) × (TableWithin balance_limit b.now) }
     ensures { ByHead result (λ k. slice_index a.now k + slice_index b.now k) }
 {
     array::from_fn(|k| a[k] + b[k])

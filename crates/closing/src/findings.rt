@@ -1,5 +1,6 @@
 //! What a closing finds, head by head, and what it makes of it.
-ghost use Rattle.std.specs.Prelude.{◌≡◌, ◌<◌, ◌≤◌, true, false, length, pos, ◌-ℤ◌, ◌*ℤ◌, unsigned_abs};
+ghost use Rattle.std.specs.Prelude.{◌≡◌, ◌<◌, ◌≤◌, true, false, length, pos, ◌-ℤ◌, ◌*ℤ◌};
+ghost use Rattle.std.specs.Prelude.{unsigned_abs};
 ghost use Rattle.methodology.specs.Limits.{head_limit};
 ghost use Rattle.accounts.specs.Limits.{carry_limit};
 ghost use Rattle.accounts.specs.Sums.{sum_toℤ, Never};

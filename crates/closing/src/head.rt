@@ -6,7 +6,9 @@ ghost use Rattle.rates.specs.Heads.{rates_at};
 ghost use Rattle.rates.specs.Limits.{yearly_limit};
 ghost use Rattle.accounts.specs.Limits.{carry_limit};
 ghost use Rattle.accounts.specs.Months.{taken};
-ghost use Rattle.settlement.specs.Closing.{heads, limit_of, old, share_of, share, pool, sent, quantity, supply, interval_spread, spread, interval_margin, margin, Empty, Unsupplied};
+ghost use Rattle.settlement.specs.Closing.{heads, limit_of, old, share_of, share, pool, sent};
+ghost use Rattle.settlement.specs.Closing.{quantity, supply, interval_spread, spread};
+ghost use Rattle.settlement.specs.Closing.{interval_margin, margin, Empty, Unsupplied};
 ghost use Rattle.closing.specs.Cases.{shows, Told};
 ghost use Rattle.closing.specs.Limits.{pool_limit};
 

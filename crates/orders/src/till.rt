@@ -21,7 +21,8 @@ pub struct Till {
 }
 
 impl Till {
-    ghost use Rattle.orders.specs.Tills.{is_place, New, MoneyAt, NoMoney, Puts, Credits, Draws, mine, Releases, Holds};
+    ghost use Rattle.orders.specs.Tills.{is_place, New, MoneyAt, NoMoney, Puts, Credits, Draws};
+    ghost use Rattle.orders.specs.Tills.{mine, Releases, Holds};
 
     /// A till with no money in it.
     pub fn new(serial: u64) -> Till

@@ -23,5 +23,5 @@ abbrev pub with_differences {ℓ} : {A : Type ℓ} → (Shape → Filing → ℤ
 with_differences f differences h = f h.filed.now.shape h.filed.now.filing differences h.number
 
 -- a base rate, differences per unit and a published rate pass the head's tests
-abbrev pub passes : FiledHead → ℕ → ℤ → ℤ → Bool
-passes h base each published = of_head energy_fits h && keeps (limit_at h.filed.now.shape h.number) base each published
+abbrev pub passes_tests : FiledHead → ℕ → ℤ → ℤ → Bool
+passes_tests h base each published = of_head energy_fits h && keeps (limit_at h.filed.now.shape h.number) base each published

@@ -4,7 +4,9 @@ ghost use Rattle.methodology.specs.Heads.{heads_of};
 ghost use Rattle.methodology.specs.Limits.{factor_limit};
 ghost use Rattle.methodology.specs.Meaning.{UpTo};
 ghost use Rattle.tariffs.specs.Limits.{coefficient_limit};
-ghost use Rattle.tariffs.specs.Publishing.{first_interval, demand_head, filed_factor, coefficient_of, base_rate, forecast, per_unit, adjustment_at, energy_fits, keeps, RatesHead};
+ghost use Rattle.tariffs.specs.Publishing.{first_interval, demand_head, filed_factor};
+ghost use Rattle.tariffs.specs.Publishing.{coefficient_of, base_rate, forecast, per_unit};
+ghost use Rattle.tariffs.specs.Publishing.{adjustment_at, energy_fits, keeps, RatesHead};
 
 use crate::filed::{Filed, per_cost};
 use crate::refusal::TariffFault;
@@ -20,7 +22,7 @@ pub(crate) struct FiledHead<'a> {
 }
 
 impl FiledHead<'_> {
-    ghost use Rattle.tariffs.specs.Filed.{of_head, with_differences, passes};
+    ghost use Rattle.tariffs.specs.Filed.{of_head, with_differences, passes_tests};
 
     /// Whether the head is billed by demand.
     fn is_demand(&self) -> bool
@@ -105,7 +107,7 @@ impl FiledHead<'_> {
 
     /// Whether its figures pass all its tests.
     fn passes(&self, base: u64, each: i64, published: u64) -> bool
-        ensures { result ≡ passes self.now base each (pos published) }
+        ensures { result ≡ passes_tests self.now base each (pos published) }
     {
         let limit = self.filed.shape.head(self.number).rate_limit();
         self.energy_fits() && keeps_limit(limit, base, each, published)

@@ -8,7 +8,7 @@ use Rattle.accounts.proofs.tables.by_head.Goals as goal
 pub loop-block-init : goal.loop-block-init
 loop-block-init g c = (
   omega arith,
-  λ k h. c.by_demand-all.ensures k h ∙ simp c.shape.ensures.revenues (sym (under_none g.M.Methodology.shape.revenues (g.M.Methodology.meaning c.args.m.now).interval c.args.first c.args.others c.args.blocks.now k)),
+  λ k h. c.under_demand-all.ensures k h ∙ simp c.shape.ensures.revenues (sym (under_none g.M.Methodology.shape.revenues (g.M.Methodology.meaning c.args.m.now).interval c.args.first c.args.others c.args.blocks.now k)),
 )
 
 pub overflow_add-all : goal.overflow_add-all
