@@ -4,6 +4,7 @@ ghost use Rattle.journal.specs.Names.{name_text};
 
 use std::fmt;
 
+/// The word that a field of a line begins with; its figures follow it.
 #[derive(Clone, Copy)]
 pub enum Name {
     Serial,

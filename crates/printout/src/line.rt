@@ -51,7 +51,9 @@ impl fmt::Display for Line<'_> {
 /// The line of a call that was not made, since the file of its reading was refused.
 #[derive(Clone, Copy)]
 pub struct FileLine {
+    /// Of the line, counted from 1.
     pub number: usize,
+    /// What was to be done with the reading.
     pub verb: Verb,
     pub refusal: FileRefusal,
 }

@@ -5,11 +5,14 @@ ghost use Rattle.printout.specs.Words.{subject_of, subject_text};
 use history::{Call, Named};
 use std::fmt;
 
+/// What a call's line names besides its verb.
 #[derive(Clone, Copy, PartialEq, Eq, Debug)]
 pub enum Subject {
     /// The market: there is nothing to name.
     Market,
+    /// A station's place.
     Place(u8),
+    /// A licensee, by its number.
     Licensee(u8),
     /// The order that the draw with this number made.
     Order(usize),

@@ -1,5 +1,5 @@
 -- How large a tally's sums may be.
-use Rattle.std.specs.Prelude.{ℕ, ◌+◌, ◌^◌, ◌<◌, ◌≤◌, unsigned_abs}
+use Rattle.std.specs.Prelude.{ℕ, ◌+◌, ◌^◌, ◌<◌, ◌≤◌, ℤ, unsigned_abs}
 use Rattle.metering.specs.Limits.{place_limit}
 use Rattle.statement.specs.declared.tally.PlaceTally.{PlaceTally}
 use Rattle.statement.specs.declared.tally.Tally.{Tally}
@@ -24,3 +24,8 @@ pub record Within (n : ℕ) (t : Tally) : Type 0 where
   pub dues : t.dues + t.unsettled ≤ n
   pub shares : t.shares ≤ n
   pub places : (k : ℕ) → k < place_limit → Small n (place_at t k)
+
+-- how large the side of the account that covers may be, whatever the signs of its balances and margins
+abbrev pub size_of : (bills fractions carries : ℕ) → (balances margins : ℤ) → ℕ
+size_of bills fractions carries balances margins =
+    bills + fractions + carries + unsigned_abs balances + unsigned_abs margins

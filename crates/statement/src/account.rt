@@ -1,5 +1,6 @@
 //! The account over the closed months: what the dues and the allowed revenues came to, and what covers them.
-ghost use Rattle.std.specs.Prelude.{◌≡◌, ◌+◌, ◌^◌, ◌≤◌, Some, unsigned_abs};
+ghost use Rattle.std.specs.Prelude.{◌≡◌, ◌+◌, ◌^◌, ◌≤◌, Some};
+ghost use Rattle.statement.specs.Bounds.{size_of};
 
 use std::fmt;
 
@@ -10,15 +11,17 @@ pub struct AccountTotals {
     pub bills: u128,
     /// The licensees' last fractions of a cent.
     pub fractions: u128,
-    /// The heads' last balances and carries.
+    /// The heads' last balances: what the published rates left to be collected; below 0, what they collected too much.
     pub balances: i128,
+    /// The heads' last carries: what the divisions of the last month left for the next.
     pub carries: u128,
     /// The loss margins.
     pub margins: i128,
-    /// The dues and the allowed revenues of the closed months.
+    /// The dues of the closed months.
     pub dues: u128,
+    /// The allowed revenues of the closed months.
     pub revenues: u128,
-    ghost low: { bills + fractions + carries + unsigned_abs balances + unsigned_abs margins ≤ 2 ^ 120 },
+    ghost low: { size_of bills fractions carries balances margins ≤ 2 ^ 120 },
     ghost modest: { dues + revenues ≤ 2 ^ 120 },
 }
 

@@ -29,14 +29,17 @@ pub struct PlaceTally {
 /// The sums over some calls' answers.
 #[derive(Clone, Copy)]
 pub struct Tally {
-    /// Cents billed, and loss margins in grains.
+    /// Cents billed over the closed months.
     pub bills: u128,
+    /// Their loss margins, grains.
     pub margins: i128,
-    /// Dues of the open month and of the closed ones, grains.
+    /// Dues of the open month, grains.
     pub unsettled: u128,
+    /// Dues of the closed months, grains.
     pub dues: u128,
-    /// Cents that the closed months' shares allow, and the yearly revenues in force.
+    /// Cents that the yearly revenues allowed in the closed months.
     pub shares: u128,
+    /// The yearly revenues in force, cents.
     pub yearly: [u64; REVENUES],
     /// By place, place 1 first.
     pub places: [PlaceTally; PLACE_COUNT],
