@@ -10,7 +10,7 @@ abbrev pub no_account : Account
 no_account =
     record { balance = pos 0; opening = pos 0; before = pos 0; carry = 0; held = lit≤ tt; opened = lit≤ tt; recalled = lit≤ tt; carried = lit≤ tt }
 
--- the account of the head at place k, and the fraction of the licensee at place l; places count from 0
+-- the account of the head at index k, and the fraction of the licensee at index l; both count from 0
 abbrev pub account_at : Books → ℕ → Account
 account_at b k = slice_index_or b.accounts k no_account
 

@@ -1,4 +1,4 @@
--- How many flags are up, and how many places of a list are filled.
+-- How many flags are up, and how many entries of a list are filled.
 use Rattle.std.specs.Prelude.{ℕ, Bool, List, is_some, count_by, Option}
 
 unfoldable pub count_true : List Bool → ℕ

@@ -17,16 +17,16 @@ use Rattle.accounts.specs.Counts.{count_true, count_some}
 use Rattle.accounts.specs.Rules.{Rules, head_count}
 use Rattle.accounts.specs.Tables.{ByHead, under_by}
 
--- the licensee at place l of the list, which counts from 0
+-- the licensee at index l of the list, which counts from 0
 abbrev pub licensee_at : Month → ℕ → Option Delivery
 licensee_at m l = slice_index_or m.licensees l None
 
--- what a licensee took under the head at place k; nothing where it did not deliver
+-- what a licensee took under the head at index k; nothing where it did not deliver
 abbrev pub taken : Option Delivery → ℕ → ℕ
 taken None k = 0
 taken (Some d) k = slice_index d.taken k
 
--- the licensee delivered, and took f k under the head at place k
+-- the licensee delivered, and took f k under the head at index k
 abbrev pub Took : Option Delivery → (ℕ → ℕ) → Type 0
 Took None f = ⊥
 Took (Some d) f = (k : ℕ) → k < head_limit → slice_index d.taken k ≡ f k

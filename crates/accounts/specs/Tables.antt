@@ -5,7 +5,7 @@ use Rattle.methodology.specs.Limits.{head_limit}
 use Rattle.accounts.specs.Rules.{Rules}
 use Rattle.accounts.specs.Sums.{sum_to}
 
--- a table has f k at each place k
+-- a table has f k at each index k
 abbrev pub ByHead : List ℕ → (ℕ → ℕ) → Type 0
 ByHead table f = (k : ℕ) → k < head_limit → slice_index table k ≡ f k
 
@@ -25,7 +25,7 @@ total blocks = sum_to (λ b. slice_index blocks b) block_count
 unfoldable pub part : (ℕ → ℕ) → List ℕ → ℕ → ℕ → ℕ
 part interval blocks e b = cond (interval b == e) (slice_index blocks b) 0
 
--- at place k, with the first n blocks: `first` at generation, `others` at the revenues, at an interval the blocks that are in it
+-- at index k, with the first n blocks: `first` at generation, `others` at the revenues, at an interval the blocks that are in it
 unfoldable pub under_to : ℕ → (ℕ → ℕ) → ℕ → ℕ → List ℕ → ℕ → ℕ → ℕ
 under_to revenues interval first others blocks n k =
     cond (k == 0) first (cond (nat_le k revenues) others (sum_to (part interval blocks (k - revenues)) n))

@@ -40,7 +40,7 @@ impl<A: Agreement> Agreement for Index<A> {
         layer_above(self.below.layer())
     }
 
-    /// The layer below is tested first.
+    /// A reading that the layer below turns down comes up with that layer's fault.
     fn ask(&self, reading: &Reading, table: &mut Dues) -> Result<(), Fault> {
         let mut below = Dues::empty();
         self.below.ask(reading, &mut below)?;

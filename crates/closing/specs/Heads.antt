@@ -21,5 +21,5 @@ abbrev pub Shareless : Case → ℕ → ℕ → Type 0
 Shareless c k pool = c.rules.revenues < k → pool ≤ slice_index c.month.income k + carry_limit
 
 -- an interval delivers, and the energy sent in is from one to two times that
-abbrev pub Supplied : Case → ℕ → Type 0
-Supplied c k = (c.rules.revenues < k) × (0 < quantity c k) × OneToTwo (quantity c k) (sent c k)
+abbrev pub WellSupplied : Case → ℕ → Type 0
+WellSupplied c k = (c.rules.revenues < k) × (0 < quantity c k) × OneToTwo (quantity c k) (sent c k)

@@ -49,7 +49,7 @@ pub struct Findings<'a, M: Methodology> {
 impl<M: Methodology> Findings<'_, M> {
     ghost use Rattle.closing.specs.Heads.{seen_in};
 
-    /// The head at a place, with its finding.
+    /// The head at an index, with its finding.
     fn at(&self, k: usize) -> FoundHead<'_, M>
         requires { k < heads (seen_in self.now) }
         ensures case { result.head.case.now ≡ self.now.case.now }

@@ -31,7 +31,7 @@ pub struct CaseHead<'a, M: Methodology> {
 
 impl<M: Methodology> CaseHead<'_, M> {
     ghost use Rattle.closing.specs.Findings.{Modest};
-    ghost use Rattle.closing.specs.Heads.{at_head, Supplied, Shareless};
+    ghost use Rattle.closing.specs.Heads.{at_head, WellSupplied, Shareless};
 
     /// Whether it is billed by demand.
     pub fn is_demand(&self) -> bool
@@ -112,7 +112,7 @@ impl<M: Methodology> CaseHead<'_, M> {
 
     /// What an interval spreads, and its margin: its unit cost for the energy sent in that is not allowed supply.
     fn interval_spread(&self) -> Spread
-        requires { at_head Supplied self.now }
+        requires { at_head WellSupplied self.now }
         ensures value { result.amount ≡ at_head interval_spread self.now }
         ensures margin { result.margin ≡ at_head interval_margin self.now }
         ensures modest { at_head Modest self.now result.margin }
@@ -129,7 +129,7 @@ impl<M: Methodology> CaseHead<'_, M> {
 
     /// The supply of an interval that its price may cover, kWh.
     fn supply(&self) -> u64
-        requires { at_head Supplied self.now }
+        requires { at_head WellSupplied self.now }
         ensures value { result ≡ at_head supply self.now }
         ensures most { result ≤ 2 * at_head sent self.now }
     {

@@ -5,7 +5,7 @@ mod calls;
 mod market;
 
 use crate::calls::{quarter, up_to_an_order};
-use crate::market::{Stations, stations};
+use crate::market::{QuarterBank, stations};
 use agreements::TwoPart;
 use anyhow::anyhow;
 use banks::{Bank, One};
@@ -21,7 +21,7 @@ const SERIAL: u64 = 1;
 
 const OTHER_SERIAL: u64 = 2;
 
-type Quarter = House<Stations, ThreeIntervals>;
+type Quarter = House<QuarterBank, ThreeIntervals>;
 
 /// Another house, with an order that it drew in hand.
 type Other = Performance<One<TwoPart>, ThreeIntervals>;
@@ -39,7 +39,7 @@ fn print_places(rt: &HostRuntime, house: &Quarter, places: u8) -> anyhow::Result
 /// either house, is held there.
 fn perform_quarter(
     heap: Global,
-    bank: Stations,
+    bank: QuarterBank,
     mut other: Other,
     calls: &[Call],
 ) -> Result<(Quarter, Vec<Answer>), Unperformed> {

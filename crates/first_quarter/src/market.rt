@@ -7,10 +7,10 @@ use tariffs::{Filing, Row};
 use worked_figures::{agreement, measured, tariff};
 
 /// Place 1 has a two-part agreement, place 2 a quota under an index layer.
-pub type Stations = Beside<One<TwoPart>, One<Index<Quota>>>;
+pub type QuarterBank = Beside<One<TwoPart>, One<Index<Quota>>>;
 
 /// 25 kWh at 60,000 grains each and all further ones at 40,000, and half as much again on all.
-pub fn stations() -> anyhow::Result<Stations> {
+pub fn stations() -> anyhow::Result<QuarterBank> {
     let quota = Quota::new(25, 60_000, 40_000).map_err(|_| anyhow!("no quota"))?;
     let left = One::new(agreement());
     let right = One::new(Index::new(quota, 1_500_000));

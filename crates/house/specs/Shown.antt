@@ -25,6 +25,6 @@ module _ {B M : Type 0} {bank : BankGhosts B} {methodology : MarketGhosts M} whe
   abbrev pub MadeOver : B → M → House B M bank methodology → Type 0
   MadeOver b m h = Over methodology.shape (methodology.meaning m) (bank.row b) (shows h)
 
-  -- and every list of calls to a house that is made so keeps the law
-  abbrev pub LawOver : B → M → ℕ → House B M bank methodology → Type 0
-  LawOver b m serial _ = EveryRun methodology.shape (methodology.meaning m) (bank.row b) serial
+-- the law holds after every list of calls to a house that is made over this bank and this methodology
+abbrev pub EveryRunOver : {B M : Type 0} → BankGhosts B → MarketGhosts M → B → M → ℕ → Type 0
+EveryRunOver bank methodology b m serial = EveryRun methodology.shape (methodology.meaning m) (bank.row b) serial

@@ -31,7 +31,7 @@ pub struct House<B: Bank, M: Methodology> {
 impl<B: Bank, M: Methodology> House<B, M> {
     ghost use Rattle.std.specs.Prelude.{◌≡◌};
     ghost use Rattle.ledger.specs.Calls.{NewHouse};
-    ghost use Rattle.house.specs.Shown.{shows, MadeOver, LawOver};
+    ghost use Rattle.house.specs.Shown.{shows, MadeOver, EveryRunOver};
     ghost use Rattle.house.specs.Calls.{Year, Tariff, Meter, Deliver, Close, Draw, Release, Hold};
 
     /// A house that waits for its first year to be filed. No money has moved in it, and the agreements stand as the bank came.
@@ -39,7 +39,7 @@ impl<B: Bank, M: Methodology> House<B, M> {
     pub fn new(bank: B, methodology: M, serial: u64) -> House<B, M>
         ensures made { NewHouse serial (shows result) }
         ensures over { MadeOver bank methodology result }
-        ensures law { LawOver bank methodology serial result }
+        ensures law { EveryRunOver B.Bank M.Methodology bank methodology serial }
     {
         let ledger = Ledger {
             stage: Stage::BeforeYear,
@@ -122,6 +122,7 @@ impl<B: Bank, M: Methodology> House<B, M> {
             .month
             .add_reading(&self.methodology, reading, &dues)
             .unwrap();
+        // Fits: capacity due and block sum are at most 10^17 each.
         Ok(worth as u64)
     }
 

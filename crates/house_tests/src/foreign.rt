@@ -17,10 +17,10 @@ use std::test::Fail;
 const OTHER: u64 = 8;
 
 /// The other house.
-type Market = House<One<TwoPart>, ThreeIntervals>;
+type FirstHouse = House<One<TwoPart>, ThreeIntervals>;
 
 /// The other house takes its first reading, for which 5,500,000 grains are due.
-fn metered(house: &mut Market) -> Result<u64, Refusal> {
+fn metered(house: &mut FirstHouse) -> Result<u64, Refusal> {
     house.year(&worked_figures::year())?;
     house.tariff(&filing())?;
     house.meter(&sent())
@@ -64,7 +64,7 @@ fn an_order_of_another_house_comes_back(rt: HostRuntime) -> Result<(), Fail> {
         (Call::Present(release, Named::Drawn(1)), Reply::Paid(1, 550)),
     ];
     let calls = calls_in(rt.alloc(), &list)?;
-    let mut other: Market = House::new(One::new(agreement()), ThreeIntervals, OTHER);
+    let mut other: FirstHouse = House::new(One::new(agreement()), ThreeIntervals, OTHER);
     let dues = metered(&mut other).map_err(|_| "the other house takes no reading")?;
     let order = other.draw(1).map_err(|_| "nothing stands at the place")?;
     let on_orders = other.ledger().till.money(1).on_orders;

@@ -37,10 +37,12 @@ pub fn reading(kind: Kind, demand: u32, energies: [u32; 3]) -> Reading {
     reading_of(kind, 1, demand, energies)
 }
 
+/// The worked year.
 pub fn year() -> Call {
     Call::Year(worked_figures::year())
 }
 
+/// The worked tariff.
 pub fn tariff() -> Call {
     Call::Tariff(filing())
 }

@@ -21,7 +21,9 @@ pub struct JournalDraft<'a> {
     heap: Global,
     /// What the market's line has said.
     pub heading: Option<Heading>,
+    /// The stations so far, place 1 first.
     pub stations: Stations,
+    /// The calls so far.
     pub entries: Vec<Entry<'a>>,
 }
 

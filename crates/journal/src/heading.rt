@@ -13,6 +13,7 @@ use words::Words;
 /// What the market's line says.
 #[derive(Clone, Copy)]
 pub struct Heading {
+    /// Whose rules the house goes by.
     pub market: Market,
     /// The number that the house's pay orders bear.
     pub serial: u64,

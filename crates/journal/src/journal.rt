@@ -15,11 +15,13 @@ use words::{Lines, Words};
 /// What an operator asks: of which market, with what stations, and which calls in their order.
 #[derive(Drop)]
 pub struct Journal<'a> {
+    /// Whose rules the house goes by.
     pub market: Market,
     /// The number that the house's pay orders bear.
     pub serial: u64,
     /// Place 1 first.
     pub stations: Stations,
+    /// The calls, in their order.
     pub entries: Vec<Entry<'a>>,
 }
 

@@ -8,13 +8,21 @@ use words::is_word;
 /// The calls of a house, each by its word.
 #[derive(Clone, Copy, PartialEq, Eq, Debug)]
 pub enum Verb {
+    /// Files a year's revenues.
     Year,
+    /// Publishes a tariff.
     Tariff,
+    /// Takes a station's reading.
     Meter,
+    /// Takes a licensee's reading.
     Deliver,
+    /// Closes the open month.
     Close,
+    /// Draws an order on a place's money.
     Draw,
+    /// Pays an order.
     Release,
+    /// Puts an order's cents back.
     Hold,
 }
 

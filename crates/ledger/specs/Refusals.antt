@@ -36,13 +36,22 @@ number_of UnderACent = 21
 
 -- and its values: the agreement's cause and layer, or a head
 abbrev pub values_of : Refusal → List ℕ
+values_of WrongKind = []
+values_of NoMonth = []
+values_of NoPlace = []
+values_of Again = []
 values_of (Agreement fault) = cause_number fault.cause ∷ fault.layer ∷ []
+values_of TooMuch = []
+values_of NotNow = []
+values_of Misallowed = []
+values_of Misfiled = []
 values_of (RateOutOfRange head) = head ∷ []
+values_of Counts = []
 values_of (NoQuantity head) = head ∷ []
 values_of (Supply head) = head ∷ []
 values_of (RateOverLimit head) = head ∷ []
 values_of (BalancePast head) = head ∷ []
-values_of _ = []
+values_of UnderACent = []
 
 -- the head that it names, and the agreement's own fault, where it has one
 abbrev pub head_of : Refusal → Option ℕ
@@ -57,7 +66,7 @@ abbrev pub fault_of : Refusal → Option Fault
 fault_of (Agreement fault) = Some fault
 fault_of _ = None
 
--- what a year, a tariff, a bank, a till and a closing refuse, as the house tells it; an agreement's fault goes up unaltered
+-- what a year, a tariff, a bank, a till and a closing refuse, as the house tells it; an agreement's fault stays as it was made
 abbrev pub of_year : Refusal
 of_year = Misallowed
 

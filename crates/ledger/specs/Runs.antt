@@ -57,10 +57,10 @@ with_presented (Ok _) hand rest = rest
 with_presented (Err _) hand rest = hand
 
 -- an event may present an order; `rest` are the orders in hand besides it, and all of them where none is presented
-abbrev pub Presented : ℕ → Event → (hand rest : List PayOrder) → Type 0
-Presented serial (release o answer) hand rest = Presents serial o hand rest
-Presented serial (hold o answer) hand rest = Presents serial o hand rest
-Presented serial _ hand rest = rest ≡ hand
+abbrev pub MayPresent : ℕ → Event → (hand rest : List PayOrder) → Type 0
+MayPresent serial (release o answer) hand rest = Presents serial o hand rest
+MayPresent serial (hold o answer) hand rest = Presents serial o hand rest
+MayPresent serial _ hand rest = rest ≡ hand
 
 -- the orders in hand after it
 abbrev pub hand_after : Event → (hand rest : List PayOrder) → List PayOrder
@@ -74,4 +74,4 @@ hand_after _ hand rest = hand
 module _ (shape : Shape) (market : Market) (row : List Meaning) (serial : ℕ) where
   pub data Run : List Event → List PayOrder → View → Type 0 where
     new : {v : View} → v.shape ≡ shape → v.market ≡ market → v.row ≡ row → NewHouse serial v → Run [] [] v
-    step : {es : List Event} {hand : List PayOrder} {v w : View} (e : Event) (rest : List PayOrder) → Run es hand v → Step v e w → Presented serial e hand rest → Run (e ∷ es) (hand_after e hand rest) w
+    step : {es : List Event} {hand : List PayOrder} {v w : View} (e : Event) (rest : List PayOrder) → Run es hand v → Step v e w → MayPresent serial e hand rest → Run (e ∷ es) (hand_after e hand rest) w

@@ -74,7 +74,7 @@ Draws t p (Ok o) t' = (is_place p ≡ true) × (cent ≤ stands t p) × Drawn t 
 Draws t p (Err draw.NoPlace) t' = (is_place p ≡ false) × (t' ≡ t)
 Draws t p (Err draw.UnderACent) t' = (is_place p ≡ true) × (stands t p < cent) × (t' ≡ t)
 
--- an order that the till may take in: of its serial, and for no more than is on orders at its place
+-- an order that the till may take in: it bears its serial, and its place has as much on orders
 abbrev pub mine : Till → PayOrder → Bool
 mine t o = o.serial == t.serial && nat_le o.cents (ordered_at t o.place)
 

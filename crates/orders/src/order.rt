@@ -99,7 +99,7 @@ pub struct Returned {
 }
 
 impl Returned {
-    /// The number of this refusal: the order is of another house, or for more than is on orders at its place.
+    /// The number of this refusal: another house drew the order, or its place has less on orders.
     pub fn number(&self) -> u8
         ensures { result ≡ returned_number }
     {

@@ -95,7 +95,7 @@ impl Till {
         Ok(PayOrder::new(self.serial, place, cents))
     }
 
-    /// Whether the order is one that this till may take in: of its serial, and for no more than is on orders at its place.
+    /// Whether the order is one that this till may take in: it bears its serial, and its place has as much on orders.
     fn knows(&self, order: &PayOrder) -> bool
         ensures { result ≡ mine self.now order.now }
     {

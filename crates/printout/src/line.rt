@@ -17,7 +17,9 @@ pub struct Line<'a> {
     pub number: usize,
     /// How many draws were accepted up to here: the number of the order where this call drew one.
     pub orders: usize,
+    /// What was asked.
     pub call: &'a Call,
+    /// What came of it.
     pub answer: &'a Answer,
 }
 
@@ -55,6 +57,7 @@ pub struct FileLine {
     pub number: usize,
     /// What was to be done with the reading.
     pub verb: Verb,
+    /// Why the file makes no reading.
     pub refusal: FileRefusal,
 }
 

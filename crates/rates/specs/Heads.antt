@@ -8,6 +8,6 @@ use Rattle.rates.specs.declared.published.Rates.{Rates}
 abbrev pub unset : HeadRates
 unset = record { published = 0; base = 0; factor = 0; priced = lit≤ tt; based = lit≤ tt; filed = lit≤ tt }
 
--- of the head at place k
+-- of the head at index k
 abbrev pub rates_at : Rates → ℕ → HeadRates
 rates_at rates k = slice_index_or rates.heads k unset

@@ -5,7 +5,7 @@ ghost use Rattle.methodology.specs.Limits.{head_limit};
 use crate::head_rates::HeadRates;
 use methodology::Shape;
 
-/// Most heads that a market has: a table by head has this many places, head 1 first.
+/// Most heads that a market has: a table by head has this many rows, head 1 first.
 pub const HEADS: usize = 6;
 
 /// A tariff's rates, head by head, with the heads that they are for. What no tariff has set is 0.

@@ -9,13 +9,16 @@ use metering::Reading;
 pub struct RefusedFile {
     /// What the journal asked to do with the file's reading.
     pub verb: Verb,
+    /// Why the file makes no reading.
     pub refusal: FileRefusal,
 }
 
-/// The calls in their order; and for each entry of the journal the file that was refused in place of a call, if one was.
+/// What is to be performed of a journal.
 #[derive(Drop)]
 pub struct CallList {
+    /// The calls, in their order.
     pub calls: Vec<Call>,
+    /// For each entry of the journal, the file that was refused in the place of a call, if one was.
     pub entries: Vec<Option<RefusedFile>>,
 }
 

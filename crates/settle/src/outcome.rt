@@ -7,11 +7,14 @@ use printout::Printer;
 use statement::Statement;
 use stations::Stations;
 
-/// A journal's list, what was performed of it, and how many places the market has.
+/// A journal's list, and what was performed of it.
 #[derive(Drop)]
 pub struct Outcome<'a, M: Methodology> {
+    /// What was to be performed.
     pub list: &'a CallList,
+    /// The house, the answers and the orders in hand after the last call.
     pub performance: &'a Performance<Stations, M>,
+    /// How many places the market has.
     pub places: u8,
 }
 

@@ -7,10 +7,12 @@ use std::alloc::AllocError;
 use std::fs;
 use std::path::Path;
 
-/// A journal's path and its text.
+/// The file of a journal.
 #[derive(Drop)]
 pub struct Source<'a> {
+    /// Its path, as it was given.
     pub path: &'a str,
+    /// What it says.
     pub text: String,
 }
 

@@ -13,18 +13,22 @@ use methodology::Head;
 /// Most digits of a number of 64 bits.
 const DIGITS: usize = 20;
 
-/// Most bytes of a number behind a blank, and of one with a sign.
+/// Most bytes of a number behind a blank.
 const FIGURE: usize = 1 + DIGITS;
 
+/// Most bytes of one that may have a sign.
 const SIGNED_FIGURE: usize = 1 + FIGURE;
 
-/// Most bytes of each line: the word that it begins with, its figures, the line feed.
+/// Most bytes of the month's line: the word that it begins with, its figure, the line feed.
 pub const MONTH_LINE: usize = 5 + FIGURE + 1;
 
+/// Most bytes of a head's line: its name, four figures of which the balance may have a sign, the line feed.
 pub const HEAD_LINE: usize = 1 + DIGITS + 3 * FIGURE + SIGNED_FIGURE + 1;
 
+/// Most bytes of a licensee's line: the word, its number, bill and fraction, the line feed.
 pub const LICENSEE_LINE: usize = 8 + 3 * FIGURE + 1;
 
+/// Most bytes of the margin's line: the word, a figure that may have a sign, the line feed.
 pub const MARGIN_LINE: usize = 6 + SIGNED_FIGURE + 1;
 
 /// Writes a number behind a blank.

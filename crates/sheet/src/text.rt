@@ -56,8 +56,8 @@ pub fn text_of(sheet: &Sheet) -> ArrayString<TEXT_LIMIT>
     text
 }
 
-/// Writes a sheet's text to the start of the buffer and answers its length, or leaves the buffer where it is too short.
-/// A buffer of `TEXT_LIMIT` bytes is always long enough.
+/// Writes a sheet's text to the start of the buffer and answers its length. Refused with 5 where the buffer is too short, which
+/// is left as it was; one of `TEXT_LIMIT` bytes is always long enough.
 pub fn write_sheet(sheet: &Sheet, buffer: &mut [u8]) -> Result<usize, ShortBuffer>
     ensures value { Writes (sheet_text sheet.now) buffer.old result buffer.new }
     ensures fits { IfOk result (λ n. n ≤ length buffer.old) }

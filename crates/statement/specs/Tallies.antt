@@ -35,8 +35,8 @@ more_at xs place given released =
     cond (nat_le 1 place && nat_le place place_limit) (slice_set xs (place - 1) (plus (slice_index_or xs (place - 1) no_tally) given released)) xs
 
 -- the cents that yearly revenues allow in a month
-abbrev pub shares_in : ℕ → List ℕ → ℕ → ℕ
-shares_in revenues yearly month = sum_to (λ j. month-share (slice_index yearly j) month) revenues
+abbrev pub shares_allowed : ℕ → List ℕ → ℕ → ℕ
+shares_allowed revenues yearly month = sum_to (λ j. month-share (slice_index yearly j) month) revenues
 
 -- a year is filed
 abbrev pub with_year : Row → Tally → Tally
@@ -50,7 +50,7 @@ with_dues place n t = record t { unsettled = t.unsettled + n; places = more_at t
 -- a month is closed: its shares are those of the year in force
 abbrev pub with_sheet : ℕ → Sheet → Tally → Tally
 with_sheet revenues s t =
-    record t { bills = t.bills + bills_on s; margins = t.margins +ℤ s.margin; unsettled = 0; dues = t.dues + t.unsettled; shares = t.shares + shares_in revenues t.yearly s.month }
+    record t { bills = t.bills + bills_on s; margins = t.margins +ℤ s.margin; unsettled = 0; dues = t.dues + t.unsettled; shares = t.shares + shares_allowed revenues t.yearly s.month }
 
 -- an order is released
 abbrev pub with_payment : ℕ → ℕ → Tally → Tally

@@ -13,12 +13,12 @@ abbrev signed_figure : List ℕ → ℤ → List ℕ
 signed_figure word z = word ++ signed_decimal z
 
 -- what the licensees were billed and still owe
-abbrev pub licensees_text : AccountTotals → List ℕ
-licensees_text a = figure (codes "bills ") a.bills ++ figure (codes " fractions ") a.fractions
+abbrev pub licensees_terms : AccountTotals → List ℕ
+licensees_terms a = figure (codes "bills ") a.bills ++ figure (codes " fractions ") a.fractions
 
 -- what the heads hold, and what the intervals kept
-abbrev pub heads_text : AccountTotals → List ℕ
-heads_text a =
+abbrev pub heads_terms : AccountTotals → List ℕ
+heads_terms a =
     signed_figure (codes "balances ") a.balances ++ (figure (codes " carries ") a.carries ++ signed_figure (codes " margins ") a.margins)
 
 -- what is to be paid for
@@ -30,8 +30,8 @@ costs_text a =
 abbrev pub account_text : AccountTotals → List ℕ
 account_text a =
     codes "account "
-    ++ (licensees_text a
-    ++ (codes " " ++ (heads_text a ++ (signed_figure (codes " sum ") (covered_by a) ++ (codes "\naccount " ++ costs_text a)))))
+    ++ (licensees_terms a
+    ++ (codes " " ++ (heads_terms a ++ (signed_figure (codes " sum ") (covered_by a) ++ (codes "\naccount " ++ costs_text a)))))
 
 abbrev pub money_text : PlaceMoney → List ℕ
 money_text m =

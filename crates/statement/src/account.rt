@@ -49,9 +49,9 @@ impl AccountTotals {
 struct Licensees(AccountTotals);
 
 impl fmt::Display for Licensees {
-    ghost use Rattle.statement.specs.Text.{licensees_text};
+    ghost use Rattle.statement.specs.Text.{licensees_terms};
 
-    ghost output = { λ a. Some (licensees_text a.0) };
+    ghost output = { λ a. Some (licensees_terms a.0) };
 
     fn fmt<W: fmt::Write>(&self, f: &mut fmt::Formatter<W>) -> fmt::Result {
         let bills = self.0.bills;
@@ -65,9 +65,9 @@ impl fmt::Display for Licensees {
 struct Heads(AccountTotals);
 
 impl fmt::Display for Heads {
-    ghost use Rattle.statement.specs.Text.{heads_text};
+    ghost use Rattle.statement.specs.Text.{heads_terms};
 
-    ghost output = { λ a. Some (heads_text a.0) };
+    ghost output = { λ a. Some (heads_terms a.0) };
 
     fn fmt<W: fmt::Write>(&self, f: &mut fmt::Formatter<W>) -> fmt::Result {
         let balances = self.0.balances;

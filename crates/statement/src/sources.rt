@@ -19,8 +19,11 @@ use std::array;
 /// The sums over the answers, and what the house's ledger holds, under so many heads.
 #[derive(Clone, Copy)]
 pub struct Sources<'a> {
+    /// The sums over the answers.
     pub tally: &'a Tally,
+    /// What the house keeps after the last call.
     pub ledger: &'a Ledger,
+    /// How many heads the market has.
     pub heads: usize,
     ghost few: { heads ≤ head_limit },
     ghost small: { Within (call_limit * turn) tally.now },

@@ -17,7 +17,9 @@ pub const CALL_LIMIT: usize = 4_294_967_296;
 /// The account, and the money of each place, place 1 first.
 #[derive(Clone, Copy)]
 pub struct Statement {
+    /// Over the closed months.
     pub account: AccountTotals,
+    /// Place 1 first, whether the bank has it or not.
     pub places: [PlaceMoney; PLACE_COUNT],
 }
 

@@ -4,7 +4,7 @@ ghost use Rattle.metering.specs.Limits.{licensee_limit};
 ghost use Rattle.methodology.specs.Limits.{revenue_limit};
 ghost use Rattle.metering.specs.Limits.{place_limit};
 ghost use Rattle.settlement.specs.Law.{bill_of, bills_on};
-ghost use Rattle.statement.specs.Tallies.{shares_in, nothing, no_tally, plus, more_at, with_year, with_dues, with_sheet, with_payment, with_accepted, with_metered, taken, tallied};
+ghost use Rattle.statement.specs.Tallies.{shares_allowed, nothing, no_tally, plus, more_at, with_year, with_dues, with_sheet, with_payment, with_accepted, with_metered, taken, tallied};
 ghost use Rattle.statement.specs.Bounds.{call_limit, turn, Small, Within};
 
 use crate::total::Total;
@@ -61,7 +61,7 @@ fn bills_on(sheet: &Sheet) -> Total
 
 /// The cents that the yearly revenues of a market allow in a month.
 fn shares_of(yearly: &[u64; REVENUES], shape: Shape, month: u8) -> Total
-    ensures { result.sum ≡ shares_in shape.revenues yearly.now month }
+    ensures { result.sum ≡ shares_allowed shape.revenues yearly.now month }
 {
     Total::of(
         &yearly[..shape.revenues],

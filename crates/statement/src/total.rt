@@ -1,8 +1,9 @@
 //! Sums over a few of anything.
 ghost use Rattle.std.specs.Prelude.{◌^◌, ◌≤◌, length};
+ghost use Rattle.metering.specs.Limits.{licensee_limit};
 ghost use Rattle.statement.specs.Totals.{SumsBy};
 
-/// What a few items amount to together. There are at most eight, as many as a market has licensees.
+/// What a few items amount to together. There are at most as many as a market has licensees.
 #[derive(Clone, Copy)]
 pub struct Total {
     pub sum: u128,
@@ -12,7 +13,7 @@ pub struct Total {
 impl Total {
     /// What the items amount to.
     pub fn of<T, F: Fn(&T) -> u64>(items: &[T], amount: F) -> Total
-        requires few { length items.now ≤ 8 }
+        requires few { length items.now ≤ licensee_limit }
         requires callable { F.IsAlwaysCallable amount }
         ensures { SumsBy (F.post amount) items.now result.sum }
     {

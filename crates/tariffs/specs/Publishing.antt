@@ -1,4 +1,4 @@
--- The rates of each head, and what publishing a tariff answers. Heads are counted from 1; a table has head 1 at place 0.
+-- The rates of each head, and what publishing a tariff answers. Heads are counted from 1; a table has head 1 at index 0.
 use Rattle.std.specs.Prelude.{◌≡◌, ℕ, ◌+◌, ◌-◌, ◌*◌, ◌/◌, ◌<◌, ◌≤◌, Bool, true, false, cond, ◌&&◌, List, ℤ, pos, ◌+ℤ◌, Ok, Err, Result, ◌==◌, int_le, nat_le, slice_index, slice_index_or, unsigned_abs}
 use Rattle.arith.specs.Division.{floor}
 use Rattle.arith.specs.Money.{cent, energy_rate_limit}
@@ -106,7 +106,7 @@ pub record FirstMisfit (shape : Shape) (filing : Filing) (earlier : List ℤ) (n
   pub here : fits_at shape filing earlier number ≡ false
   pub before : (lower : ℕ) → 1 ≤ lower → lower < number → fits_at shape filing earlier lower ≡ true
 
--- every head has its rates, and the places past the last head hold 0
+-- every head has its rates, and the rows past the last head hold 0
 pub record Published (shape : Shape) (filing : Filing) (earlier : List ℤ) (rates : Rates) : Type 0 where
   pub heads : rates.shape ≡ shape
   pub rated : (number : ℕ) → UpTo (heads_of shape) number → Rated shape filing (earlier_at earlier number) number (rates_at rates (number - 1))

@@ -32,7 +32,7 @@ impl FiledHead<'_> {
         self.filed.shape.head(self.number).is_demand()
     }
 
-    /// The place of its interval in the rows by interval; 0 for a demand head.
+    /// The index of its interval in the rows by interval; 0 for a demand head.
     fn interval_place(&self) -> usize
         ensures value { result ≡ self.now.number - first_interval self.now.filed.now.shape }
         ensures inside { result < self.now.filed.now.shape.intervals }

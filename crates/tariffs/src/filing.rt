@@ -13,7 +13,7 @@ use methodology::{FACTOR_LIMIT, Shape};
 pub struct Filing {
     /// The cost of each demand head, cents.
     pub costs: Row,
-    /// The sum of six monthly peak forecasts, kW.
+    /// The forecast peaks of the half-year's months, added up, kW.
     pub peaks: u64,
     /// The cost of all energy, cents.
     pub energy_cost: u64,

@@ -15,6 +15,7 @@ impl YearRefused {
     }
 }
 
+/// Why a tariff is not published.
 #[derive(Clone, Copy, PartialEq, Eq, Debug)]
 pub enum TariffFault {
     /// A count does not fit the heads, or a figure is outside its limits.

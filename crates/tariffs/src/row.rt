@@ -27,7 +27,7 @@ impl Row {
         }
     }
 
-    /// The figure at a place, counted from 0; past the table it is 0.
+    /// The figure at an index; past the table it is 0.
     pub fn figure(&self, place: usize) -> u64
         ensures { result ≡ slice_index self.now.figures place }
     {

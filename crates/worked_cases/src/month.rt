@@ -18,7 +18,9 @@ pub type FirstHouse = House<One<TwoPart>, ThreeIntervals>;
 /// The house after its first month, and the month's sheet.
 #[derive(Drop)]
 pub struct FirstMonth {
+    /// After the closing.
     pub house: FirstHouse,
+    /// What the closing filled in.
     pub sheet: Sheet,
 }
 

@@ -13,6 +13,7 @@ pub struct Plan {
     pub filing: Filing,
 }
 
+/// Two years of three intervals.
 pub fn three() -> Plan {
     Plan {
         revenues: [year(), Row::of(&[1_300, 130])],
@@ -20,6 +21,7 @@ pub fn three() -> Plan {
     }
 }
 
+/// Two years of two intervals.
 pub fn two() -> Plan {
     Plan {
         revenues: [Row::of(&[1_000, 100, 50]), Row::of(&[1_300, 130, 65])],
@@ -62,6 +64,7 @@ pub fn half_year(calls: &mut Vec<Call>, filing: Filing, half: u8) -> Result<(), 
     Ok(())
 }
 
+/// Adds the calls of two years.
 pub fn two_years(calls: &mut Vec<Call>, plan: &Plan) -> Result<(), AllocError> {
     calls.push(Call::Year(plan.revenues[0]))?;
     half_year(calls, plan.filing, 0)?;

@@ -28,12 +28,12 @@ fn head(rates: [u64; 3], balance: i64) -> ExpectedHead {
 
 /// What is to come of all heads, and the margin of each month.
 #[derive(Clone, Copy)]
-struct Expected {
+struct ExpectedYears {
     heads: [ExpectedHead; 6],
     margin: i64,
 }
 
-impl Expected {
+impl ExpectedYears {
     /// Six months under a tariff: their numbers, margins and published rates. The first two tariffs have the same rates.
     fn check_period(
         &self,
@@ -109,7 +109,7 @@ fn walk<M: Methodology + Drop>(
     heap: Global,
     methodology: M,
     plan: &Plan,
-    expected: &Expected,
+    expected: &ExpectedYears,
 ) -> Result<(), Fail> {
     let mut calls = Vec::new(heap);
     two_years(&mut calls, plan)?;
@@ -133,7 +133,7 @@ fn walk<M: Methodology + Drop>(
 /// E2 brings -840,009 in either period, over 114 kWh that is -7,369, and with a tenth more -8,106.
 #[test]
 fn two_years_of_three_intervals(rt: HostRuntime) -> Result<(), Fail> {
-    let expected = Expected {
+    let expected = ExpectedYears {
         heads: [
             head([20_000, 22_222, 22_444], 1_199_970),
             head([9_000, 9_259, 9_284], 139_950),
@@ -151,7 +151,7 @@ fn two_years_of_three_intervals(rt: HostRuntime) -> Result<(), Fail> {
 /// for each of three. E1 brings 6 * 19 * (50,000 - 63,000) in period 1, over 114 kWh that is -13,000.
 #[test]
 fn two_years_of_two_intervals(rt: HostRuntime) -> Result<(), Fail> {
-    let expected = Expected {
+    let expected = ExpectedYears {
         heads: [
             head([20_000, 22_222, 22_444], 1_199_970),
             head([9_000, 9_259, 9_284], 139_950),
