@@ -30,7 +30,7 @@ pub struct House<B: Bank, M: Methodology> {
 
 impl<B: Bank, M: Methodology> House<B, M> {
     ghost use Rattle.std.specs.Prelude.{◌≡◌};
-    ghost use Rattle.ledger.specs.Calls.{NewHouse};
+    ghost use Rattle.ledger.specs.Calls.{NewHouse, Unrated};
     ghost use Rattle.house.specs.Shown.{shows, MadeOver, EveryRunOver};
     ghost use Rattle.house.specs.Calls.{Year, Tariff, Meter, Deliver, Close, Draw, Release, Hold};
 
@@ -38,6 +38,7 @@ impl<B: Bank, M: Methodology> House<B, M> {
     /// Its pay orders bear the serial number, which should be one that no other house has.
     pub fn new(bank: B, methodology: M, serial: u64) -> House<B, M>
         ensures made { NewHouse serial (shows result) }
+        ensures unrated { Unrated (shows result) }
         ensures over { MadeOver bank methodology result }
         ensures law { EveryRunOver B.Bank M.Methodology bank methodology serial }
     {

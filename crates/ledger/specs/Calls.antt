@@ -36,10 +36,14 @@ use Rattle.ledger.specs.Terms.{worth, dues_at}
 pub record NewHouse (serial : ℕ) (v : View) : Type 0 where
   pub stage_is : v.ledger.stage ≡ BeforeYear
   pub no_year : (j : ℕ) → slice_index v.ledger.revenues.yearly j ≡ 0
-  pub no_tariff : (k : ℕ) → rates_at v.ledger.rates k ≡ unset
+  pub no_tariff : (k : ℕ) → (rates_at v.ledger.rates k).published ≡ 0
   pub unused : Unused (books_of v)
   pub opened : Opened (month_of v)
   pub money : New serial (till_of v)
+
+-- and no base rate or loss factor either
+abbrev pub Unrated : View → Type 0
+Unrated v = (k : ℕ) → rates_at v.ledger.rates k ≡ unset
 
 -- Year
 
