@@ -1,5 +1,5 @@
 //! The till of a house: the money of each place, under the house's serial number.
-ghost use Rattle.std.specs.Prelude.{◌≡◌, ◌≤◌, false, length};
+ghost use Rattle.std.specs.Prelude.{◌≡◌, ◌≤◌, ◌&&◌, false, length};
 ghost use Rattle.metering.specs.Limits.{place_limit};
 ghost use Rattle.orders.specs.Refusals.{draw_number, credit_number};
 
@@ -22,7 +22,7 @@ pub struct Till {
 
 impl Till {
     ghost use Rattle.orders.specs.Tills.{is_place, New, MoneyAt, NoMoney, Puts, Credits, Draws};
-    ghost use Rattle.orders.specs.Tills.{mine, Releases, Holds};
+    ghost use Rattle.orders.specs.Tills.{room, mine, Releases, Holds};
 
     /// A till with no money in it.
     pub fn new(serial: u64) -> Till
@@ -54,6 +54,13 @@ impl Till {
         ensures none { is_place place ≡ false → NoMoney result }
     {
         Place::numbered(place).map_or(Money::none(), |place| self.at(place))
+    }
+
+    /// Whether so many grains more may come to a place: there is such a place, and its money keeps `MONEY_LIMIT`.
+    pub fn has_room(&self, place: u8, grains: u128) -> bool
+        ensures { result ≡ is_place place && room self.now place grains }
+    {
+        Place::numbered(place).is_some_and(|place| self.at(place).with(grains).is_some())
     }
 
     /// Puts other money at a place.
