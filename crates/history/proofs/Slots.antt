@@ -86,6 +86,11 @@ without_none slots number h =
     (λ (some : 1 ≤ number). without_is slots number some ∙ nothing_lost slots (number - 1) (sym (slot_is slots number some) ∙ h))
     (cases_lt number 1)
 
+-- an order that is taken out leaves its number free
+pub taken_slot : (slots : Slots) (number : ℕ) → 1 ≤ number → slot (without slots number) number ≡ None
+taken_slot slots number some =
+    slot_is (without slots number) number some ∙ ap (λ xs. get_or xs (number - 1) None) (without_is slots number some) ∙ emptied slots (number - 1)
+
 pub without_long : (slots : Slots) (number : ℕ) → 1 ≤ number → length (without slots number) ≡ length slots
 without_long slots number some = ap length (without_is slots number some) ∙ as_long slots (number - 1) None
 

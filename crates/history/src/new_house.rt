@@ -85,8 +85,8 @@ impl<B: Bank + Drop, M: Methodology + Drop> NewHouse<B, M> {
         ensures { IfOk result (Performs self [] calls.now) }
     {
         let mut none = Orders::with_room(heap, 0)?;
-        let outcome = self.make(heap, calls, &mut none);
+        let outcome = self.perform(heap, calls, &mut none);
         none.finish();
-        outcome
+        outcome.map_err(|_| AllocError)
     }
 }
