@@ -5,7 +5,7 @@ mod draft;
 pub mod entry;
 pub mod expected;
 mod field;
-mod heading;
+pub mod heading;
 pub mod journal;
 pub mod market;
 pub mod name;

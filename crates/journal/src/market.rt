@@ -7,6 +7,7 @@ ghost use Rattle.journal.specs.Requests.{Tells, filing_of, year_of, tariff_of, r
 
 use crate::expected::Expected;
 use crate::field::{ended, field, single};
+pub use crate::heading::{Heading, read_heading};
 use crate::name::Name;
 use crate::request::{Request, close, draw, meter_file, order};
 use crate::verb::Verb;
