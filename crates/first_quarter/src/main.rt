@@ -66,7 +66,9 @@ fn run(rt: &HostRuntime) -> anyhow::Result<()> {
         methodology: ThreeIntervals,
         serial: OTHER_SERIAL,
     };
-    let other = other_house.perform_alone(heap, &other_calls)?;
+    let other = other_house
+        .perform_alone(heap, &other_calls)
+        .map_err(|_| anyhow!("the other house's calls are not performed"))?;
     let performed = perform_quarter(heap, bank, other, &calls);
     let (house, answers) = performed.map_err(|_| anyhow!("the calls are not performed"))?;
     let mut printer = Printer::new();
