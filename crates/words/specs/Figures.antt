@@ -1,5 +1,5 @@
 -- Figures: words of decimal digits.
-use Rattle.std.specs.Prelude.{◌≡◌, ℕ, ◌^◌, min, Bool, true, cond, ◌&&◌, List, length, Some, None, Option, nat_le, nat_lt}
+use Rattle.std.specs.Prelude.{◌≡◌, ℕ, ◌+◌, ◌-◌, ◌*◌, ◌^◌, ◌<◌, min, Bool, true, cond, ◌&&◌, List, length, Some, None, Option, MatchOption, SomeIff, nat_le, nat_lt}
 use Rattle.std.specs.Borrow.{Bor}
 use Rattle.std.specs.List.{list_all}
 use Rattle.std.specs.Str.Parse.{digits_value}
@@ -29,3 +29,9 @@ figure_of w = held 4294967295 w
 -- the number that a figure writes, if 64 bits hold it
 abbrev pub number_of : List ℕ → Option ℕ
 number_of w = cond (is_figure w && nat_lt (digits_value 10 w) (2 ^ 64)) (Some (digits_value 10 w)) None
+
+-- a number with one digit more, if there is one, the byte is a digit and 64 bits hold what comes of it
+abbrev pub OneDigitMore : Option ℕ → ℕ → Option ℕ → Type 0
+OneDigitMore number byte result =
+    MatchOption number (result ≡ None)
+    (λ n. SomeIff result ((digit byte ≡ true) × (n * 10 + (byte - 48) < 2 ^ 64)) (n * 10 + (byte - 48)))

@@ -1,9 +1,13 @@
-use Rattle.std.proofs.Common.{◌∙◌, subst}
-use Rattle.std.specs.Str.Parse.{ParsesUnsigned}
-use Rattle.words.proofs.Digits.{number_read}
+use Rattle.std.proofs.Common.{◌≡◌, Some, length, refl, rules, arith, ◌∙◌, sym}
+use Rattle.std.proofs.lemmas.Bool.{eqb-false}
+use Rattle.std.proofs.lemmas.Iterator.{YieldsList-from_slice}
+use Rattle.std.proofs.lemmas.Iterator.Consumers.{fold_from_yields_List}
+use Rattle.words.proofs.Digits.{with_digit, digit_added, number_run}
 use Rattle.words.proofs.figures.number.Goals as goal
 
-pub returns : goal.returns
-returns c =
-    let e = c.in_ok-digits.ensures in
-    c.ok.ensures.value ∙ number_read c.args.word.now e.0 c.parse.result (subst (λ text. ParsesUnsigned 64 10 text c.parse.result) e.1 c.parse.ensures.value.0)
+pub returns-else-is_empty : goal.returns-else-is_empty
+returns-else-is_empty c =
+    let w = c.args.word.now in
+    let some : length w ≡ 0 → ⊥ = eqb-false (length w) 0 (sym c.if-is_empty.ensures) in
+    fold_from_yields_List _ with_digit (Some 0) _ c.fold.ensures.ran (YieldsList-from_slice w cc) (λ a x b q k. (refl, digit_added a x.now b (search rules)))
+    ∙ number_run w (omega arith)
